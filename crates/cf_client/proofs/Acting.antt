@@ -27,10 +27,10 @@ use Rattle.cf_peer.specs.Asking.{FiltersOpen, NothingOpen, blocks_from, claims_a
 use Rattle.cf_peer.specs.Peer.{Holds, heard_out, wants, is_idle_peer, asked_for_headers, asked_for_claims, asked_for_filters, asked_for_block}
 use Rattle.cf_peer.proofs.Peers.{idle_request, asked_claims_holds, asked_filters_holds, asked_block_holds}
 use Rattle.cf_sync.specs.Fetching.{IsConnected, MaySendIn, IsNeeded, Rule, blocks_open, filters_open}
-use Rattle.cf_sync.specs.Kept.{AimsAt}
-use Rattle.cf_sync.specs.Known.{OpensAt}
+use Rattle.cf_holds.specs.Kept.{AimsAt}
+use Rattle.cf_holds.specs.Known.{OpensAt}
 use Rattle.cf_sync.proofs.Counted.{same_use}
-use Rattle.cf_sync.proofs.KeptOpens.{opens_block, opens_filters}
+use Rattle.cf_holds.proofs.KeptOpens.{opens_block, opens_filters}
 use Rattle.cf_seek.specs.declared.spans.Span.{Span}
 use Rattle.cf_seek.specs.declared.spans.Wish.TheVariants.{Claims, Filters, Block, Test}
 use Rattle.cf_seek.specs.declared.testing.Trial.{Trial}
@@ -41,8 +41,8 @@ use Rattle.cf_tables.specs.Tests.{IsSameTold}
 use Rattle.cf_tables.specs.Known.{TestResults, ExtractTable}
 use Rattle.cf_seek.specs.Testing.{IsTrying}
 use Rattle.cf_tables.specs.Trials.{IsSameTrials, Trials}
-use Rattle.cf_seek.proofs.Stops.{back_ends}
-use Rattle.cf_sync.proofs.KeptAims.{IsNoQuestion, aims_asked, aims_for_test, aims_for_wanted, aims_other}
+use Rattle.cf_headers.proofs.Found.{back_ends}
+use Rattle.cf_holds.proofs.KeptAims.{IsNoQuestion, aims_asked, aims_for_test, aims_for_wanted, aims_other}
 use Rattle.cf_seek.specs.Opens.{Opens}
 use Rattle.cf_seek.specs.Opening.{IsSameElse, IsSameOpens, OpensBlock, OpensFilters}
 use Rattle.cf_seek.specs.Seeking.{MoreOpens}

@@ -14,7 +14,7 @@ use Rattle.cf_wires.specs.Log.{Log}
 use Rattle.cf_peer.specs.Trail.{Trail, Part, part_of, trail, connected, own, is_heard_out_in}
 use Rattle.cf_peer.specs.Asking.{SameUse}
 use Rattle.cf_sync.specs.Fetching.{AreShorterBefore, IsConnected, IsBest, Rule, counted_part}
-use Rattle.cf_sync.specs.Due.{IsInTurn, Puts}
+use Rattle.cf_holds.specs.Due.{IsInTurn, Puts}
 use Rattle.cf_sync.proofs.Counted.{same_use}
 use Rattle.cf_hear.specs.Seen.{Seen}
 use Rattle.cf_hear.specs.Tracks.{Tracks, chain_kept}

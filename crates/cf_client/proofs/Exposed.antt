@@ -34,8 +34,8 @@ use Rattle.cf_hear.specs.Exposing.{IsExposedIn, IsExposing, IsUnexposed}
 use Rattle.cf_hear.specs.Tracks.{Tracks, chain_kept}
 use Rattle.cf_hear.proofs.Tracking.{IsSameBrought, seen_at, tracks_exposed, tracks_on}
 use Rattle.cf_seek.specs.Testing.{IsClaimedAs}
-use Rattle.cf_sync.specs.Known.{OpensAt, claims_kept}
-use Rattle.cf_sync.proofs.KeptAims.{trials_same}
+use Rattle.cf_holds.specs.Known.{OpensAt, claims_kept}
+use Rattle.cf_holds.proofs.KeptAims.{trials_same}
 use Rattle.cf_place.specs.declared.place.Place.{Place}
 use Rattle.cf_place.specs.declared.place.Place.TheVariants.{Here, Lost}
 use Rattle.cf_place.specs.Places.{Allowed, Fits, Keeps, PlacesStand, after, entry_of, is_calm, is_here, nobody, place_at}

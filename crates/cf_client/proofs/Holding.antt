@@ -31,10 +31,10 @@ use Rattle.cf_peer.specs.Held.{count_came}
 use Rattle.cf_peer.specs.Peer.{aged, request_of}
 use Rattle.cf_peer.specs.Trail.{Trail, Part, Called, Said, Refused, Asked, Passed, Lost, part_of, trail, connected, ready, own}
 use Rattle.cf_peer.specs.Asking.{OpenRequest, NothingOpen, HeadersOpen, ClaimsOpen, FiltersOpen, BlockOpen, PingOpen, is_answer_of, is_wanted, blocks_from, claims_asked, filters_asked, filters_left, filter_of, request, request_for, request_after, age, claims, claims_after, verdict, counted, fetched, given, MayAskIn}
-use Rattle.cf_sync.specs.Fetching.{RightlyIn, HoldsFetched, IsFetchedHash}
+use Rattle.cf_sync.specs.Fetching.{RightlyIn, IsFetchedHash}
+use Rattle.cf_holds.specs.Known.{HoldsFetched, HoldsClaims, HoldsGiven, claims_kept}
 use Rattle.cf_sync.specs.Honesty.{was_called}
-use Rattle.cf_sync.specs.Kept.{HoldsOutputs}
-use Rattle.cf_sync.specs.Known.{HoldsClaims, HoldsGiven, claims_kept}
+use Rattle.cf_holds.specs.Kept.{HoldsOutputs}
 use Rattle.cf_sync.proofs.Answered.{given_wide}
 use Rattle.cf_sync.proofs.Listed.{in_left, in_right}
 use Rattle.cf_sync.proofs.Remembers.{AskedRightlyIn, asked_rightly_in}

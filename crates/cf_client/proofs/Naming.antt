@@ -9,7 +9,7 @@ use Rattle.cf_peer.specs.Trail.{trail}
 use Rattle.cf_peer.specs.declared.mode.Mode.TheVariants.{Following}
 use Rattle.cf_wires.specs.Log.{Log}
 use Rattle.cf_sync.specs.Fetching.{IsOmitting, RightlyIn}
-use Rattle.cf_sync.proofs.KeptTests.{holds_all}
+use Rattle.cf_holds.proofs.KeptTests.{holds_all}
 use Rattle.cf_hear.specs.Seen.{Seen}
 use Rattle.cf_hear.specs.Exposing.{IsUnexposed}
 use Rattle.cf_hear.specs.Tracks.{Tracks}

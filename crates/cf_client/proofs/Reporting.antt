@@ -27,8 +27,8 @@ use Rattle.cf_peer.specs.declared.peer.Cause.TheVariants.{Omits}
 use Rattle.cf_sync.specs.Blame.{HasOmitted}
 use Rattle.cf_sync.specs.Fetching.{IsBlockOpen, IsConnected, IsAskedOutIn, IsTestedThrough, IsFilterOpen, IsScanOver, IsSettled, counted_part}
 use Rattle.cf_sync.proofs.Counted.{same_use}
-use Rattle.cf_sync.proofs.KeptOpens.{settled_else}
-use Rattle.cf_sync.proofs.Tables.{history_over}
+use Rattle.cf_holds.proofs.KeptOpens.{settled_else}
+use Rattle.cf_holds.proofs.Tables.{history_over}
 use Rattle.cf_tables.specs.Wanting.{IsAbove}
 use Rattle.cf_hear.specs.Seen.{Seen}
 use Rattle.cf_hear.specs.Tracks.{Tracks}

@@ -15,10 +15,10 @@ use Rattle.cf_wires.specs.declared.event.Event.TheVariants.{Closed}
 use Rattle.cf_wires.specs.Log.{Log, tally_of}
 use Rattle.cf_sync.specs.Blame.{HasOmitted}
 use Rattle.cf_sync.specs.Fetching.{IsOmitting, Rule}
-use Rattle.cf_sync.specs.Kept.{KeepsTrials}
+use Rattle.cf_holds.specs.Kept.{KeepsTrials}
 use Rattle.cf_sync.proofs.Blamed.{tested_stays}
 use Rattle.cf_sync.proofs.Grows.{fetched_stays}
-use Rattle.cf_sync.proofs.KeptAims.{trials_stay}
+use Rattle.cf_holds.proofs.KeptAims.{trials_stay}
 use Rattle.cf_sync.proofs.Omitted.{off_unfailed}
 use Rattle.cf_place.specs.declared.place.Place.{Place}
 use Rattle.cf_place.specs.declared.place.Loss.TheVariants.{Closed as ClosedFor}

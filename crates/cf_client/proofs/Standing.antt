@@ -26,7 +26,7 @@ use Rattle.cf_peer.specs.Asking.{counted, age, is_open, MayAskIn, IsFree}
 use Rattle.cf_peer.specs.Peer.{Holds, heard_out, wants, is_idle_peer, called_peer, asked_for_headers}
 use Rattle.cf_sync.specs.Blame.{HasOmitted}
 use Rattle.cf_sync.specs.Fetching.{MaySendIn, RightlyIn, Rule}
-use Rattle.cf_sync.specs.Due.{IsCalledFor}
+use Rattle.cf_holds.specs.Due.{IsCalledFor}
 use Rattle.cf_sync.specs.Honesty.{asked}
 use Rattle.cf_sync.proofs.Counted.{same_use}
 use Rattle.cf_sync.proofs.Omitted.{connected_unomitted}

@@ -31,7 +31,7 @@ use Rattle.cf_peer.specs.Hearing.{IsReply}
 use Rattle.cf_dispute.specs.Claims.{Table, no_claims}
 use Rattle.cf_headers.specs.Chain.{Hash}
 use Rattle.cf_sync.specs.Fetching.{MaySendIn, Rule, blocks_open, filters_open}
-use Rattle.cf_sync.specs.Due.{IsCalledFor}
+use Rattle.cf_holds.specs.Due.{IsCalledFor}
 use Rattle.cf_sync.specs.Honesty.{asked}
 use Rattle.cf_sync.proofs.Counted.{same_use}
 use Rattle.cf_sync.specs.Blame.{HasOmitted}
@@ -57,7 +57,7 @@ use Rattle.cf_client.proofs.Settled.{set_other}
 use Rattle.cf_client.proofs.Ordering.{told_replies, told_fault}
 use Rattle.cf_client.proofs.Spelled.{spelled_bytes}
 use Rattle.cf_client.proofs.Steps.{IsChanged, is_lost, goes_watch, extends_self, extends_none, extends_one, stands_start, start_places, start_tracks, stay_moves, set_moves, taken}
-use Rattle.cf_sync.proofs.KeptAims.{IsNoQuestion}
+use Rattle.cf_holds.proofs.KeptAims.{IsNoQuestion}
 
 -- what a peer says loses nobody, and nothing is sent by it
 pub record SaysOnly (after before : Trail) : Type 0 where

@@ -9,10 +9,10 @@ use Rattle.cf_headers.specs.Heights.{hash_at, common_of}
 use Rattle.cf_wires.specs.Log.{Log}
 use Rattle.cf_peer.specs.Trail.{own}
 use Rattle.cf_scan.specs.declared.extracts.TxExtract.{TxExtract}
-use Rattle.cf_seek.proofs.Along.{common_low}
-use Rattle.cf_seek.proofs.Stops.{back_ends, found_low}
+use Rattle.cf_headers.proofs.Commons.{common_low}
+use Rattle.cf_headers.proofs.Found.{back_ends, found_low}
 use Rattle.cf_sync.specs.Fetching.{counted_part, IsAbove, IsConnected, IsDisputed, IsFetchedHash, IsTestedThrough, IsTestedWith}
-use Rattle.cf_sync.proofs.Kept.{by_claims}
+use Rattle.cf_holds.proofs.Kept.{by_claims}
 use Rattle.cf_hear.specs.Seen.{Seen}
 use Rattle.cf_hear.specs.Tracks.{Tracks}
 use Rattle.cf_client.specs.Settled.{IsTriedThrough}
@@ -62,7 +62,7 @@ tested_by s log chain p tracks on none height up low above got disputed hash cla
       by (Some true) e = (tracks.trials.told.lacking block hash e).0
       by (Some false) e = tracks.trials.told.holding block hash e
       by None e =
-          let within = common_low mine chain in
+          let within = (common_low mine chain).0 in
           let found = found_low block mine height (omega (arith, low, within)) refl in
           let c = by_claims log s.claims tracks.claimed p block hash on claimed in
           absurd (none block (length found.0) (record {

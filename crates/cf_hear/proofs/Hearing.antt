@@ -41,8 +41,7 @@ use Rattle.cf_scan.specs.declared.extracts.TxExtract.{TxExtract}
 use Rattle.cf_tables.specs.Tables.{IsSameTable, with_block, with_blocks}
 use Rattle.cf_tables.specs.Known.{ExtractTable}
 use Rattle.cf_sync.proofs.Counted.{same_longer, same_use}
-use Rattle.cf_sync.proofs.Grows.{said_brings}
-use Rattle.cf_sync.proofs.VerdictsGrow.{said_gives}
+use Rattle.cf_sync.proofs.Grows.{said_brings, said_gives}
 use Rattle.cf_tables.specs.Claiming.{IsSameTables}
 use Rattle.cf_match.specs.declared.job.Job.{Job}
 use Rattle.cf_match.specs.Verdicts.{Verdicts, AreSameVerdicts, with_verdict, with_verdicts}
@@ -58,8 +57,8 @@ use Rattle.cf_headers.specs.Rules.{same as same_bytes}
 use Rattle.cf_peer.specs.declared.peer.Request.{Request}
 use Rattle.cf_peer.specs.declared.peer.Request.TheVariants.{Nothing, Handshake, Headers as HeadersAsked, Claims as ClaimsAsked, Filters as FiltersAsked, Block as BlockAsked, Ping as PingAsked}
 use Rattle.cf_seek.specs.Opening.{Closes, IsSameElse, IsSameOpens}
-use Rattle.cf_sync.specs.Known.{OpensAt}
-use Rattle.cf_sync.proofs.KeptOpens.{opens_closed}
+use Rattle.cf_holds.specs.Known.{OpensAt}
+use Rattle.cf_holds.proofs.KeptOpens.{opens_closed}
 use Rattle.cf_hear.specs.Seen.{Seen, IsSameSeen, Follows}
 use Rattle.cf_hear.specs.Hearing.{Gains, Gives, Retains, HearsSeen, HearsNext, Advances, Reveals, Stops, Brings, Midway, HeardFault, HeardExposed, HeardPiece, AreReplies}
 use Rattle.cf_hear.specs.Exposing.{ExposesAmong, IsUnexposed}

@@ -23,8 +23,8 @@ use Rattle.cf_peer.proofs.Peers.{awaits_is, idle_request}
 use Rattle.cf_seek.specs.Opens.{Opens, IsBlockFree, IsFilterFree}
 use Rattle.cf_seek.specs.Opening.{Closes, IsSameElse, IsSameOpens}
 use Rattle.cf_sync.specs.Fetching.{blocks_open, filters_open}
-use Rattle.cf_sync.specs.Known.{HoldsOpens, OpensAt}
-use Rattle.cf_sync.proofs.KeptOpens.{opens_closed, opens_same}
+use Rattle.cf_holds.specs.Known.{HoldsOpens, OpensAt}
+use Rattle.cf_holds.proofs.KeptOpens.{opens_closed, opens_same}
 use Rattle.cf_sync.proofs.Once.{answered, blocks_said, filters_said, moved_back}
 
 -- ---- what is kept of it

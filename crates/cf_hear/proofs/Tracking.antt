@@ -18,18 +18,18 @@ use Rattle.cf_wires.specs.declared.event.Event.TheVariants.{Dialled, NotDialled,
 use Rattle.cf_wires.specs.Log.{Log}
 use Rattle.cf_peer.specs.Trail.{Trail, Part, Asked, Lost, Went, Shutting, part_of, trail, went_on, asks, spelled, with_item, called_part, heard_part, connected, own}
 use Rattle.cf_peer.specs.Asking.{NothingOpen, claims, counted, request, fetched, given, SameUse}
-use Rattle.cf_sync.specs.Fetching.{HoldsFetched, IsConnected, IsFetched, blocks_open, filters_open}
-use Rattle.cf_sync.specs.Kept.{AimsAt, HoldsTrials}
-use Rattle.cf_sync.specs.Known.{HoldsClaims, HoldsGiven, HoldsOpens, OpensAt, claims_kept}
+use Rattle.cf_sync.specs.Fetching.{IsConnected, IsFetched, blocks_open, filters_open}
+use Rattle.cf_holds.specs.Known.{HoldsFetched, HoldsClaims, HoldsGiven, HoldsOpens, OpensAt, claims_kept}
+use Rattle.cf_holds.specs.Kept.{AimsAt, HoldsTrials}
 use Rattle.cf_sync.specs.Planned.{IsSameGiven}
 use Rattle.cf_sync.proofs.Answered.{none_came_same_given}
-use Rattle.cf_sync.proofs.KeptAims.{IsNoQuestion, aims_other, trials_piece, trials_same, trials_sent, trials_stay}
-use Rattle.cf_sync.proofs.KeptGiven.{verdicts_go}
-use Rattle.cf_sync.proofs.KeptOpens.{opens_closed, opens_put}
+use Rattle.cf_holds.proofs.KeptAims.{IsNoQuestion, aims_other, trials_piece, trials_same, trials_sent, trials_stay}
+use Rattle.cf_holds.proofs.KeptGiven.{verdicts_go}
+use Rattle.cf_holds.proofs.KeptOpens.{opens_closed, opens_put}
 use Rattle.cf_sync.proofs.Counted.{same_use}
 use Rattle.cf_sync.proofs.Deaf.{heard_deaf, heard_on}
-use Rattle.cf_sync.proofs.TableGrows.{holds_after_piece}
-use Rattle.cf_sync.proofs.VerdictsGrow.{same_given}
+use Rattle.cf_holds.proofs.TableGrows.{holds_after_piece}
+use Rattle.cf_holds.proofs.VerdictsGrow.{same_given}
 use Rattle.cf_seek.specs.Opening.{Closes, IsSameOpens}
 use Rattle.cf_tables.specs.Tables.{IsSameTable}
 use Rattle.cf_tables.specs.Known.{ExtractTable}

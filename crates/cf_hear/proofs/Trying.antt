@@ -15,7 +15,7 @@ use Rattle.cf_tables.specs.Tests.{IsSameTold, found_too, with_test}
 use Rattle.cf_tables.specs.Known.{TestResults}
 use Rattle.cf_tables.specs.Trials.{IsSameTrials, Trials, TrialsGo, tested_if, with_found, with_paid}
 use Rattle.cf_sync.proofs.Idle.{no_block, no_filter, nothing_after}
-use Rattle.cf_sync.proofs.KeptAims.{brings_said}
+use Rattle.cf_holds.proofs.KeptAims.{brings_said}
 use Rattle.cf_hear.specs.Tracks.{IsSameElsewhere}
 
 -- ---- the same is kept

@@ -25,9 +25,9 @@ use Rattle.cf_wires.specs.Log.{Log}
 use Rattle.cf_peer.specs.Trail.{Trail, trail, connected, own}
 use Rattle.cf_sync.specs.Fetching.{IsFilterWanted, AreFiltersWanted, IsNeeded, IsBlockWanted, IsTestOf, MaySendIn, blocks_in}
 use Rattle.cf_sync.proofs.FreshTests.{test_alone, tip_only}
-use Rattle.cf_sync.proofs.KeptOpens.{block_alone, filters_alone}
-use Rattle.cf_sync.proofs.Kept.{filter_by, block_by}
-use Rattle.cf_sync.proofs.KeptTests.{trial_by}
+use Rattle.cf_holds.proofs.KeptOpens.{block_alone, filters_alone}
+use Rattle.cf_holds.proofs.Kept.{filter_by, block_by}
+use Rattle.cf_holds.proofs.KeptTests.{trial_by}
 use Rattle.cf_seek.specs.declared.spans.Span.{Span}
 use Rattle.cf_seek.specs.declared.spans.Wish.TheVariants.{Claims, Filters, Block, Test}
 use Rattle.cf_seek.specs.declared.testing.Trial.{Trial}
@@ -38,7 +38,8 @@ use Rattle.cf_seek.specs.Testing.{IsTrial, IsTrying}
 use Rattle.cf_tables.specs.Wanting.{IsAbove, IsUnjudged, AreClaimed}
 use Rattle.cf_seek.proofs.Along.{hash_of_next}
 use Rattle.std.proofs.lemmas.Bool.{cases_lt, both_ways}
-use Rattle.cf_seek.proofs.Stops.{above_part, back_ends, lower_on, parent_is}
+use Rattle.cf_seek.proofs.Stops.{above_part, parent_is}
+use Rattle.cf_headers.proofs.Found.{back_ends, lower_on}
 use Rattle.cf_hear.specs.Seen.{Seen}
 use Rattle.cf_hear.specs.Tracks.{Tracks}
 

@@ -21,8 +21,8 @@ use Rattle.cf_peer.specs.Asking.{block_entry, counted, fetched, given}
 use Rattle.cf_peer.specs.Peer.{Holds, calm, busy, wants, is_ready_peer, is_idle_peer}
 use Rattle.cf_sync.specs.Blame.{HasOmitted}
 use Rattle.cf_sync.specs.Fetching.{MaySendIn, DeservesIn, RightlyIn, Rule}
-use Rattle.cf_sync.specs.Due.{IsCalledFor}
-use Rattle.cf_sync.specs.Kept.{KeepsTrials}
+use Rattle.cf_holds.specs.Due.{IsCalledFor}
+use Rattle.cf_holds.specs.Kept.{KeepsTrials}
 use Rattle.cf_sync.specs.Planned.{IsSameGiven}
 use Rattle.cf_place.specs.declared.place.Place.{Place}
 use Rattle.cf_place.specs.declared.place.Place.TheVariants.{Here, Lost}

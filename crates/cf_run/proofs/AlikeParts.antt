@@ -8,11 +8,11 @@ use Rattle.cf_peer.specs.Asking.{is_open, Deserves}
 use Rattle.cf_sync.specs.Fetching.{DeservesIn, IsOmitting, IsSameFetched, IsTested}
 use Rattle.cf_match.specs.declared.job.Job.{Job}
 use Rattle.cf_sync.proofs.Plans.{omits_alike, off_omits_nothing}
-use Rattle.cf_sync.specs.Known.{OpensAt, claims_kept}
+use Rattle.cf_holds.specs.Known.{OpensAt, claims_kept}
 use Rattle.cf_sync.specs.Planned.{Alike}
 use Rattle.cf_hear.specs.Tracks.{chain_kept}
 use Rattle.cf_hear.proofs.Opening.{closes_off}
-use Rattle.cf_sync.proofs.KeptOpens.{opens_closed}
+use Rattle.cf_holds.proofs.KeptOpens.{opens_closed}
 use Rattle.cf_seek.specs.Opens.{Opens}
 use Rattle.cf_place.specs.declared.place.Place.{Place}
 use Rattle.cf_place.specs.declared.place.Place.TheVariants.{Here, Lost as LostPlace}

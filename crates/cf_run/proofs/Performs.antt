@@ -34,7 +34,7 @@ use Rattle.cf_sync.specs.Fetching.{IsAlone, counted_part, DeservesIn, IsTested, 
 use Rattle.cf_match.specs.declared.job.Job.{Job}
 use Rattle.cf_sync.proofs.Omitted.{omitted_unfailed}
 use Rattle.cf_sync.proofs.Plans.{omits_alike, off_omits_nothing}
-use Rattle.cf_sync.proofs.VerdictsGrow.{same_given}
+use Rattle.cf_holds.proofs.VerdictsGrow.{same_given}
 use Rattle.cf_sync.specs.Planned.{is_untold, before_failure, IsMeant, Alike, IsSameGiven, IsSameTest}
 use Rattle.cf_sync.proofs.Planning.{planned_part}
 use Rattle.cf_tracker.specs.Tracker.{opens_of, trials_of}
@@ -49,10 +49,11 @@ use Rattle.cf_place.specs.Standing.{IsNamed, IsRepliedIn}
 use Rattle.cf_client.specs.Stands.{Reflects, count_of, rule_by}
 use Rattle.cf_run.specs.Run.{IsTicked, IsTraceOf}
 use Rattle.cf_run.specs.Moments.{Doing, ActsLeft, HoldsOver, closes, state_at, is_pending, is_fine}
-use Rattle.cf_sync.proofs.SameFetched.{same_wanted, same_holds}
+use Rattle.cf_sync.proofs.SameFetched.{same_wanted}
+use Rattle.cf_holds.proofs.TableGrows.{same_holds}
 use Rattle.cf_client.proofs.Spelled.{spelled_bytes}
 use Rattle.cf_sync.proofs.Blamed.{tested_stays}
-use Rattle.cf_sync.proofs.KeptAims.{closed_on as on_closed, failed_on as on_failed, sent_on as on_sent, test_alike, test_off, trials_alike, trials_stay}
+use Rattle.cf_holds.proofs.KeptAims.{closed_on as on_closed, failed_on as on_failed, sent_on as on_sent, test_alike, test_off, trials_alike, trials_stay}
 use Rattle.cf_run.proofs.AlikeParts.{deserved_in, deserved_in_off, failed_in_off, replied_in, omits_planned, fits_alike, chain_alike, claims_alike, opens_alike}
 
 -- with no act left

@@ -37,7 +37,8 @@ use Rattle.cf_run.specs.Run.{IsOrderly, WasOrderly, AreNumbered, IsUntaken, IsTi
 use Rattle.cf_run.specs.Moments.{IsUnused, Notes, Doing, HoldsOver, Stopped, IsEndTold, state_at, is_pending, is_fine}
 use Rattle.cf_client.specs.Blameless.{AreAskedOut}
 use Rattle.cf_peer.specs.declared.act.Act.{Act}
-use Rattle.cf_sync.specs.Planned.{is_untold, ArePlanned}
+use Rattle.cf_holds.specs.Due.{ArePlanned}
+use Rattle.cf_sync.specs.Planned.{is_untold}
 use Rattle.cf_sync.specs.Sync.{HasAskedIn}
 use Rattle.cf_sync.proofs.Planning.{own_plan}
 use Rattle.cf_sync.proofs.Deaf.{heard_on}

@@ -12,7 +12,8 @@ use Rattle.cf_peer.specs.Trail.{trail, connected, failed}
 use Rattle.cf_peer.specs.Asking.{given}
 use Rattle.cf_sync.specs.Blame.{HasOmitted}
 use Rattle.cf_sync.specs.Fetching.{IsSameFetched, Rule, RightlyIn, AreBytes, counted_part}
-use Rattle.cf_sync.specs.Planned.{is_untold, IsPlanned, ArePlanned}
+use Rattle.cf_holds.specs.Due.{ArePlanned}
+use Rattle.cf_sync.specs.Planned.{is_untold, IsPlanned}
 use Rattle.cf_client.specs.declared.client.Client.{Client}
 use Rattle.cf_run.specs.declared.outcome.End.{End}
 use Rattle.cf_run.specs.declared.outcome.End.TheVariants.{Synced, NoPeers, Tired, Ended as EndedFirst}

@@ -24,7 +24,8 @@ use Rattle.cf_scan.specs.declared.history.Entry.{Entry}
 use Rattle.cf_headers.specs.Chain.{NoHashClash}
 use Rattle.cf_sync.specs.Blame.{AreBlamed}
 use Rattle.cf_sync.specs.Fetching.{IsBusy, IsQuiet, IsConnected, Rule, is_after_tick, DeservesIn}
-use Rattle.cf_sync.specs.Planned.{is_untold, ArePlanned}
+use Rattle.cf_holds.specs.Due.{ArePlanned}
+use Rattle.cf_sync.specs.Planned.{is_untold}
 use Rattle.cf_sync.specs.Sync.{HasAskedIn, IsHashed}
 use Rattle.cf_sync.specs.Sync as sync
 use Rattle.cf_run.specs.declared.outcome.End.{End}

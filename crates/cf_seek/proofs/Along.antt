@@ -3,7 +3,6 @@ use Rattle.std.proofs.Common.{◌≡◌, inl, inr, zero, ℕ, suc, ◌+◌, ◌-
 use Rattle.std.specs.Prelude.{IsSome, unwrap_or, fold}
 use Rattle.std.proofs.lemmas.Bool.{cases_lt}
 use Rattle.std.proofs.lemmas.List.{length-reverse, length-drop, reverse-append, reverse-reverse, drop_more}
-use Rattle.std.proofs.lemmas.List.Sums.{common_prefix_len-le}
 use Rattle.std.proofs.lemmas.Grind.{take_at_read}
 use Rattle.cf_bytes.specs.declared.hash.Hash32.{Hash32}
 use Rattle.cf_bytes.specs.declared.peer.PeerNo.{PeerNo}
@@ -11,7 +10,7 @@ use Rattle.cf_block.specs.declared.header.Header.{Header}
 use Rattle.cf_block.specs.Header.{block_hash_of}
 use Rattle.cf_dispute.specs.Tables.{blocks_of}
 use Rattle.cf_headers.specs.Chain.{Hash, Chain, IsIn, lower, tip_hash}
-use Rattle.cf_headers.specs.Heights.{hash_at, common_of, is_same_header}
+use Rattle.cf_headers.specs.Heights.{hash_at}
 use Rattle.cf_headers.specs.Store.{Chains, rank, IsBest}
 use Rattle.cf_headers.proofs.Stacks.{lower_reverse}
 use Rattle.cf_scan.specs.Scan.{Scanned}
@@ -19,10 +18,6 @@ use Rattle.cf_scan.specs.Extracts.{after_placed}
 use Rattle.cf_tables.specs.Tables.{placed_one, placed_by}
 use Rattle.cf_tables.specs.Known.{ExtractTable}
 use Rattle.cf_seek.specs.Tracking.{AreAmong, IsBestChain, best_chain}
-
--- both chains have the blocks up to the common height
-pub common_low : (own other : Chain) → common_of own other ≤ length own
-common_low own other = omega (arith, (common_prefix_len-le is_same_header (reverse own) (reverse other)).0, length-reverse own)
 
 -- ---- the best chain
 

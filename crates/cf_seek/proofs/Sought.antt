@@ -13,8 +13,8 @@ use Rattle.cf_tables.specs.Known.{ExtractTable}
 use Rattle.cf_tables.specs.Wanting.{IsToFetch, IsKind}
 use Rattle.cf_seek.specs.Opens.{Opens}
 use Rattle.cf_seek.specs.Seeking.{IsToAsk, AreToAsk}
-use Rattle.cf_seek.proofs.Stops.{found_low}
-use Rattle.cf_tables.proofs.Told.{more, none_differ, not_unjudged}
+use Rattle.cf_headers.proofs.Found.{found_low}
+use Rattle.cf_tables.proofs.Told.{none_differ, not_unjudged}
 
 -- ---- a block's kind
 

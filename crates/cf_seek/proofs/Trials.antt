@@ -12,7 +12,8 @@ use Rattle.cf_headers.proofs.ChainLaws.{back_in}
 use Rattle.cf_seek.specs.Testing.{IsTrial, IsNextTrial}
 use Rattle.cf_seek.specs.Tried.{AreTried, IsToTry}
 use Rattle.cf_seek.proofs.Sought.{placed_low}
-use Rattle.cf_seek.proofs.Stops.{back_ends, found_low, length_found}
+use Rattle.cf_seek.proofs.Stops.{length_found}
+use Rattle.cf_headers.proofs.Found.{back_ends, found_low}
 use Rattle.cf_tables.specs.Known.{ExtractTable, TestResults}
 use Rattle.cf_tables.specs.Wanting.{IsAbove}
 

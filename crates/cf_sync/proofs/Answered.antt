@@ -41,12 +41,7 @@ pub only_pieces_answer : (way : Log → ℕ → Hash → Type 0) (e : Event) (lo
 only_pieces_answer way (Took (Got q piece)) log job none a = absurd none
 only_pieces_answer way (Took (Gone q)) log job none a = a
 only_pieces_answer way (Took (Tick s)) log job none a = a
-only_pieces_answer way (Took Ended) log job none a = a
-only_pieces_answer way (Dialled q name) log job none a = a
-only_pieces_answer way (NotDialled q name) log job none a = a
-only_pieces_answer way (Sent q bytes) log job none a = a
-only_pieces_answer way (SendFailed q) log job none a = a
-only_pieces_answer way (Closed q) log job none a = a
+only_pieces_answer way e log job none a = a
 
 -- nor does an entry with which no peer gave a filter more
 pub none_came_answers : (way : Log → ℕ → Hash → Type 0) (e : Event) (log : Log)
@@ -59,12 +54,7 @@ none_came_answers way (Took (Got q piece)) log same1 job (inl new) =
     absurd (subst (λ (js : List Job). IsIn job js) none new.1.among)
 none_came_answers way (Took (Gone q)) log same1 job a = a
 none_came_answers way (Took (Tick s)) log same1 job a = a
-none_came_answers way (Took Ended) log same1 job a = a
-none_came_answers way (Dialled q name) log same1 job a = a
-none_came_answers way (NotDialled q name) log same1 job a = a
-none_came_answers way (Sent q bytes) log same1 job a = a
-none_came_answers way (SendFailed q) log same1 job a = a
-none_came_answers way (Closed q) log same1 job a = a
+none_came_answers way e log same1 job a = a
 
 -- a filter came in a whole answer of some peer, before the first frame by which that peer deserved a cause
 abbrev pub HasCome : Log → Job → Type 0

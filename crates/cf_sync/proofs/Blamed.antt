@@ -141,15 +141,10 @@ said_on (Took (Tick s)) log p m h = h
 said_on (Took Ended) log p m h = h
 
 pub bytes_before : (e : Event) (log : Log) → AreBytes (e ∷ log) → AreBytes log
-bytes_before (Dialled q name) log h = h
-bytes_before (NotDialled q name) log h = h
-bytes_before (Sent q bytes) log h = h
-bytes_before (SendFailed q) log h = h
-bytes_before (Closed q) log h = h
 bytes_before (Took (Got q piece)) log h = h.1
 bytes_before (Took (Gone q)) log h = h
 bytes_before (Took (Tick s)) log h = h
-bytes_before (Took Ended) log h = h
+bytes_before e log h = h
 
 hashed_on : (e : Event) (log : Log) (blocks : List Block) (s : List ℕ) → IsHashed log blocks s → IsHashed (e ∷ log) blocks s
 hashed_on e log blocks s (inl first) = inl first

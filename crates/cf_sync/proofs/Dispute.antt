@@ -1,5 +1,5 @@
 -- The run with two peers in which a dispute stands: the second shows the same chain and claims another filter of its block, which is fetched then.
-use Rattle.std.proofs.Common.{◌≡◌, inl, inr, ℕ, ◌≤◌, List, [], ◌∷◌, length, Some, None, true, false, not, refl, sym, ◌∙◌, ap, subst, arith, ◌⊎◌, ◌≢◌, ◌++◌, Option}
+use Rattle.std.proofs.Common.{◌≡◌, inl, inr, ℕ, List, [], ◌∷◌, length, Some, None, true, false, not, refl, sym, ◌∙◌, ap, subst, arith, ◌⊎◌, ◌≢◌, ◌++◌, Option}
 use Rattle.std.specs.Prelude.{option_map}
 use Rattle.std.proofs.lemmas.Bool.{false≢true}
 use Rattle.cf_bytes.specs.Compact.{compact}
@@ -8,13 +8,13 @@ use Rattle.cf_block.specs.declared.tx.Block.{Block}
 use Rattle.cf_block.specs.Header.{block_hash_of, genesis_header}
 use Rattle.cf_dispute.specs.declared.claim.Claim.{Claim}
 use Rattle.cf_dispute.specs.Claims.{Table, claim_of, no_claims, with_claim}
-use Rattle.cf_headers.specs.Heights.{hash_at}
 use Rattle.cf_headers.specs.Chain.{Chain, Accepted, back_to, IsIn, NoHashClash, no_hash}
 use Rattle.cf_msg.specs.declared.msg.Msg.{Msg}
 use Rattle.cf_msg.specs.declared.msg.Msg.TheVariants.{Verack, Cfheaders, Block as BlockMessage, Cfilter}
 use Rattle.cf_msg.specs.Message.{payload_of}
+use Rattle.cf_peer.specs.declared.mode.Mode.TheVariants.{Once}
 use Rattle.cf_peer.specs.Acts.{bytes_of, IsSendable}
-use Rattle.cf_peer.specs.Asking.{block_entry, is_spare, NothingOpen, ClaimsOpen, FiltersOpen, claims_asked, claims, claims_after, claims_fault, hash_claimed, fault_of, request, request_after, is_idle, is_open, verdict, counted, fetched, hashes_of, HasSaid, MayAsk, SameUse, IsFree, filter_fault, filter_of, filters_asked, given, given_by}
+use Rattle.cf_peer.specs.Asking.{block_entry, is_spare, NothingOpen, ClaimsOpen, FiltersOpen, claims_asked, claims, claims_after, claims_fault, hash_claimed, fault_of, request, request_after, is_idle, is_open, verdict, counted, fetched, HasSaid, MayAsk, SameUse, IsFree, filter_fault, filter_of, filters_asked, given, given_by}
 use Rattle.cf_wires.specs.Log.{Log}
 use Rattle.cf_peer.specs.Trail.{Trail, Said, Asked, part_of, trail, connected, own, is_heard_out, longer_of, ends_by, fault_in, first, Lost, Shutting, with_item}
 use Rattle.cf_scan.specs.Scan.{scan_of}
@@ -33,12 +33,12 @@ use Rattle.cf_sync.specs.Honesty.{IsHonestOver, IsHonest, was_called, ShowsNoOth
 use Rattle.cf_sync.specs.Sync.{strings_of, IsHashed, HasAsked}
 use Rattle.cf_dispute.proofs.PutIn.{same_from}
 use Rattle.cf_sync.proofs.Chains.{same_self}
-use Rattle.cf_sync.proofs.Computed.{name_is, small_bytes, version_small, false_version_small, verack_small, headers_small, claims_small, false_claims_small, filter_small, block_small, false_answer_small}
+use Rattle.cf_sync.proofs.Computed.{name_is, small_bytes, version_small, false_version_small, verack_small, headers_small, claims_small, filters_small, block_small}
 use Rattle.cf_sync.proofs.Counted.{same_use, said_counts}
 use Rattle.cf_sync.proofs.Written.{at_rest, sent_part, got_part, spelled_is, name_length, its_sendable, verack_sendable, question_sendable, headers_sendable, claims_sendable, filter_sendable, ask_claims_sendable, ask_filter_sendable, fetch_sendable, block_sendable}
-use Rattle.cf_sync.proofs.TwoPeers.{part_2, other_8, of_part, AreOfTwo, at_each, accepted, no_clash, IsKnown, SaysKnown, headers_known, chain_known, good_chain, has_room, at_log, honest_9, says_2, says_3, says_4, says_5, says_6, heard_7, heard_8, heard_9, heard_10, heard_11, own_7, other_hash, self_hash, may_ask_of, may_ask_claims, request_8, request_9, request_10, request_11, first_same, may_ask_filter, HasNone, unsaid, no_block_11, IsSpare, busy_1, right_9, open_where, counts_11, ShowsOnly, only_of, SharesIt, shares_it, ClaimsIt, claims_it, one_long, nobody_below, only_claim, first_byte, t_2, t_3, t_4, t_5, t_6, t_7, t_8, t_9, t_10, t_11, u_6, byte_known, genesis_byte, header_byte, tx_byte, filter_byte, zero_byte, may_ask_filter_of}
+use Rattle.cf_sync.proofs.TwoPeers.{part_2, other_8, of_part, AreOfTwo, at_each, accepted, no_clash, IsKnown, SaysKnown, headers_known, chain_known, good_chain, has_room, at_log, honest_9, says_2, says_3, says_4, says_5, says_6, heard_7, heard_8, heard_9, heard_10, heard_11, own_7, other_hash, self_hash, may_ask_of, may_ask_claims, request_8, request_9, request_10, request_11, first_same, may_ask_filter, HasNone, unsaid, no_block_11, IsSpare, busy_1, right_9, open_where, counts_11, ShowsOnly, only_of, only_claim, first_byte, t_2, t_3, t_4, t_5, t_6, t_7, t_8, t_9, t_10, t_11, u_6, byte_known, genesis_byte, header_byte, tx_byte, filter_byte, zero_byte, may_ask_filter_of, WasHeard, asked_all, heard_it, off_heard}
 use Rattle.cf_sync.proofs.Fetched.{heard_12, heard_13, may_fetch, counts_13, fetched_13, t_12, t_13, t_14, t_15, says_15, heard_14, heard_15, clean_15, counts_15, request_14, request_15, may_ask_again}
-use Rattle.cf_sync.proofs.Cleared.{cleared_by, silent_agrees}
+use Rattle.cf_sync.proofs.Cleared.{cleared_of_two, silent_agrees}
 
 -- ---- what the second claims
 
@@ -432,7 +432,7 @@ disputed = disputed_by dispute_22 t_13 part_22 other_22 refl counts_13.claimed
 
 -- by its filter the block was cleared before, and now it is wanted
 pub disputed_cleared : IsCleared other_watch dispute_19 only_hash.0
-disputed_cleared = cleared_by dispute_19 v_8 part_19 other_19 two_19 (silent_agrees v_8 (ap (λ (c : Table). c only_hash.0) same_8.claiming))
+disputed_cleared = cleared_of_two dispute_19 v_8 part_19 other_19 two_19 (silent_agrees v_8 (ap (λ (c : Table). c only_hash.0) same_8.claiming))
     (λ got. none_fetched_19 got.0 got.1)
 
 pub disputed_wanted : (watch : List (List ℕ)) → IsBlockWanted watch dispute_20 only_hash.0
@@ -577,54 +577,26 @@ pub disputed_alone : ShowsNoOther disputed_run chain_of_one
 disputed_alone q other on shows long = of_each (ShowsOnly other) q (only_of other t_15 counts_15.showing) (λ is1 s l. absurd (false≢true is1)) (λ is1 s l. absurd (false≢true is1)) on shows long
 
 disputed_bytes : AreBytes disputed_run
-disputed_bytes = (small_bytes (bytes_of false_answer) false_answer_small, (small_bytes (bytes_of its_filter) filter_small, (small_bytes (bytes_of its_block) block_small, (small_bytes (bytes_of false_claims) false_claims_small, (small_bytes (bytes_of its_filter) filter_small, (small_bytes (bytes_of its_claims) claims_small, bytes_15)))))) where
+disputed_bytes = (small_bytes (bytes_of false_answer) filters_small.1, (small_bytes (bytes_of its_filter) filters_small.0, (small_bytes (bytes_of its_block) block_small, (small_bytes (bytes_of false_claims) claims_small.1, (small_bytes (bytes_of its_filter) filters_small.0, (small_bytes (bytes_of its_claims) claims_small.0, bytes_15)))))) where
   bytes_9 : AreBytes dispute_9
   bytes_9 = (small_bytes (bytes_of its_headers) headers_small, (small_bytes (bytes_of Verack) verack_small, (small_bytes (bytes_of false_version) false_version_small, tt)))
 
   bytes_15 : AreBytes dispute_15
   bytes_15 = (small_bytes (bytes_of its_headers) headers_small, (small_bytes (bytes_of Verack) verack_small, (small_bytes (bytes_of its_version) version_small, bytes_9)))
 
-settled : (block : List ℕ) → IsIn block (hashes_of (only_header ∷ [])) → IsFetchedHash disputed_run block
-settled block (inl e) = (only_block, is_fetched, sym e)
-settled block (inr none) = absurd none
-
 pub disputed_asked : (watch : List (List ℕ)) → IsWatch watch → HasAsked watch 1 only_hash (scan_of chain_of_one watch) disputed_run
-disputed_asked watch fits = record {
-  watchable = fits;
-  bytes = disputed_bytes;
-  rightly = disputed_right;
-  told = record {
-    chain = only_header ∷ [];
-    best = record {
-      longest = λ p on. of_each (λ t. connected t ≡ true → length (own (counted t)) ≤ 1) p (λ is1. one_long t_15 counts_15.chain) (λ is1. absurd (false≢true is1)) (λ is1. absurd (false≢true is1)) on;
-      shown = inl (
-        1,
-        (
-          of_part (λ t. connected t ≡ true) (part_of disputed_run 1) t_15 part_27 refl,
-          of_part (λ t. own (counted t) ≡ only_header ∷ []) (part_of disputed_run 1) t_15 part_27 counts_15.chain,
-          λ q below on. absurd (nobody_below disputed_run q refl below on),
-        ),
-      );
-    };
-    height_is = refl;
-    hash_is = refl;
-    scanned = record { blocks = chain_of_one; taken = (inl (is_fetched, refl), tt); history = refl };
-  };
-  asked_out = λ p on idle. record {
-    heard_out = of_each (λ t. connected t ≡ true → is_heard_out (counted t) ≡ true) p (λ is1. counts_15.heard_out) (λ is1. absurd (false≢true is1)) (λ is1. absurd (false≢true is1)) on;
-    claimed = of_each (λ t. connected t ≡ true → ClaimsIt t) p (λ is1. claims_it t_15 only_claim counts_15.claimed counts_15.chain) (λ is1. absurd (false≢true is1)) (λ is1. absurd (false≢true is1)) on;
-    settled = λ h one le above no_filter no_block.
-        inl (settled (hash_at (own (counted_part disputed_run p)) h)
-        (inl (of_each (λ t. connected t ≡ true → SharesIt t) p (λ is1. shares_it t_15 counts_15.chain) (λ is1. absurd (false≢true is1)) (λ is1. absurd (false≢true is1)) on h one le)));
-    tested = λ h one le above got disputed hash claims_this. absurd (no_dispute (hash_at (own (counted_part disputed_run p)) h) disputed);
-  };
-} where
-  -- the first alone is left
-  no_dispute : (block : List ℕ) → IsDisputed disputed_run block → ⊥
-  no_dispute block d = d.apart (one_hash (alone d.one d.mine d.there.0 d.claims.0) (alone d.other d.yours d.there.1 d.claims.1)) where
-    alone : (q : ℕ) (hash : Hash32) → connected (trail disputed_run q) ≡ true → HasClaimed disputed_run q block hash → hash_claimed (claims (counted t_15)) block ≡ Some hash
-    alone q hash on = of_each (λ t. connected t ≡ true → hash_claimed (claims (counted t)) block ≡ Some hash → hash_claimed (claims (counted t_15)) block ≡ Some hash) q
-        (λ is1 e. e) (λ is1. absurd (false≢true is1)) (λ is1. absurd (false≢true is1)) on
+disputed_asked watch fits =
+    asked_all Once watch (scan_of chain_of_one watch) disputed_run t_15 part_27 refl counts_15.chain refl fits disputed_bytes disputed_right
+    (record { blocks = chain_of_one; taken = (inl (is_fetched, refl), tt); history = refl })
+    (λ p. of_each (WasHeard Once) p (heard_it Once t_15 counts_15.chain counts_15.claimed counts_15.heard_out)
+    (off_heard Once v_12 refl) (off_heard Once [] refl))
+    (inl (only_block, is_fetched, refl)) (λ block got disputed. no_dispute block disputed) where
+      -- the first alone is left
+      no_dispute : (block : List ℕ) → IsDisputed disputed_run block → ⊥
+      no_dispute block d = d.apart (one_hash (alone d.one d.mine d.there.0 d.claims.0) (alone d.other d.yours d.there.1 d.claims.1)) where
+        alone : (q : ℕ) (hash : Hash32) → connected (trail disputed_run q) ≡ true → HasClaimed disputed_run q block hash → hash_claimed (claims (counted t_15)) block ≡ Some hash
+        alone q hash on = of_each (λ t. connected t ≡ true → hash_claimed (claims (counted t)) block ≡ Some hash → hash_claimed (claims (counted t_15)) block ≡ Some hash) q
+            (λ is1 e. e) (λ is1. absurd (false≢true is1)) (λ is1. absurd (false≢true is1)) on
 
-    one_hash : {a b : Hash32} → hash_claimed (claims (counted t_15)) block ≡ Some a → hash_claimed (claims (counted t_15)) block ≡ Some b → a ≡ b
-    one_hash {a} {b} x y = (let both : Some a ≡ Some b = sym x ∙ y in cc)
+        one_hash : {a b : Hash32} → hash_claimed (claims (counted t_15)) block ≡ Some a → hash_claimed (claims (counted t_15)) block ≡ Some b → a ≡ b
+        one_hash {a} {b} x y = (let both : Some a ≡ Some b = sym x ∙ y in cc)

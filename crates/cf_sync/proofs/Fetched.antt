@@ -1,5 +1,5 @@
 -- The longer of the runs with two peers, in which the block is fetched: the history is the honest chain's.
-use Rattle.std.proofs.Common.{◌≡◌, inl, inr, ℕ, ◌≤◌, List, [], ◌∷◌, ◌++◌, map, length, Some, None, true, false, refl, sym, ◌∙◌, ap, subst, arith, Option}
+use Rattle.std.proofs.Common.{◌≡◌, inl, inr, ℕ, List, [], ◌∷◌, ◌++◌, map, Some, None, true, false, refl, sym, ◌∙◌, ap, subst, arith, Option}
 use Rattle.std.specs.List.{flat_map}
 use Rattle.std.proofs.lemmas.Bool.{false≢true}
 use Rattle.std.proofs.lemmas.List.{append-nil}
@@ -9,18 +9,17 @@ use Rattle.cf_bytes.specs.declared.hash.Hash32.{Hash32}
 use Rattle.cf_dispute.specs.Claims.{Table}
 use Rattle.cf_chain.specs.Serve.{data_reply}
 use Rattle.cf_headers.specs.Chain.{Chain, fits, IsIn, NoHashClash, Hash}
-use Rattle.cf_headers.specs.Heights.{hash_at}
 use Rattle.cf_msg.specs.declared.msg.Msg.{Msg}
 use Rattle.cf_msg.specs.declared.msg.Msg.TheVariants.{Verack, Block as BlockMessage}
 use Rattle.cf_peer.specs.Acts.{bytes_of}
 use Rattle.cf_peer.specs.Asking.{is_spare, NothingOpen, FiltersOpen, BlockOpen, filters_asked, claims, filter_fault, fault_of, request_after, IsFree, request, is_wanted, is_open, block_fault, verdict, counted, fetched, fetched_by, block_entry, hashes_of, MayAsk, hash_claimed}
 use Rattle.cf_wires.specs.Log.{Log}
 use Rattle.cf_peer.specs.declared.mode.Mode.TheVariants.{Once}
-use Rattle.cf_peer.specs.Trail.{Trail, Said, Asked, part_of, trail, connected, own, is_heard_out, first}
+use Rattle.cf_peer.specs.Trail.{Trail, Said, Asked, part_of, trail, is_heard_out, first}
 use Rattle.cf_scan.specs.Scan.{scan_of}
 use Rattle.cf_scan.specs.Watching.{IsWatch}
 use Rattle.cf_sync.specs.Example.{only_header, only_block, only_hash, chain_of_one, honest_peer, its_version, its_headers, fetch, its_block, log_18, log_19, run_of_two, only_filter, its_claims, ask_filter, its_filter}
-use Rattle.cf_sync.specs.Fetching.{counted_part, IsQuiet, AreBytes, IsFetched, IsFetchedHash, Rightly, HasClaimed, IsDisputed}
+use Rattle.cf_sync.specs.Fetching.{IsQuiet, AreBytes, IsFetched, Rightly, HasClaimed, IsDisputed}
 use Rattle.cf_sync.proofs.Alone.{IsNoneFetching, none_block}
 use Rattle.cf_sync.specs.Honesty.{Leaves, answers, AnswersAs, IsHonest, was_called, ShowsNoOther}
 use Rattle.cf_sync.specs.Sync.{strings_of, IsHashed, HasAsked}
@@ -30,7 +29,7 @@ use Rattle.cf_sync.proofs.Counted.{same_use, said_counts}
 use Rattle.cf_sync.proofs.Settles.{committed_is}
 use Rattle.cf_sync.proofs.Computed.{committed, small_bytes, block_small}
 use Rattle.cf_sync.proofs.Written.{spelled_is, at_rest, sent_part, got_part, fetch_sendable, block_sendable}
-use Rattle.cf_sync.proofs.TwoPeers.{t_9, t_11, part_18, u_7, other_20, of_part, all_of_two, at_each, has_room, good_chain, IsKnown, no_clash, block_known, SaysKnown, filter_known, says_11, says_7, chain_known, setting, headers_answer, claims_said, filters_said, claims_answer, filter_answer, at_log, honest_18, own_7, self_hash, back_only, only_claim, claim_found, may_ask_filter_of, hash_same, clean_11, request_11, none_fetched, IsSpare, cleared_right, still_true, heard_out_11, Counts, counts_of, same_other, ShowsOnly, only_of, none_of, cleared_bytes, SharesIt, shares_it, other_shares, nobody_shares, ClaimsIt, claims_it, other_claims, nobody_claims, one_long, other_long, nobody_below}
+use Rattle.cf_sync.proofs.TwoPeers.{t_9, t_11, part_18, u_7, other_20, of_part, all_of_two, at_each, has_room, good_chain, IsKnown, no_clash, block_known, SaysKnown, filter_known, says_11, says_7, chain_known, setting, headers_answer, claims_said, filters_said, claims_answer, filter_answer, at_log, honest_18, own_7, self_hash, back_only, only_claim, claim_found, may_ask_filter_of, hash_same, clean_11, request_11, none_fetched, IsSpare, cleared_right, still_true, heard_out_11, Counts, counts_of, same_other, ShowsOnly, only_of, none_of, cleared_bytes, WasHeard, asked_all, heard_it, off_heard, other_heard}
 
 -- ---- the parts, moment by moment
 
@@ -195,10 +194,6 @@ shows_no_other q other on shows long = of_each (ShowsOnly other) q (only_of othe
 are_bytes : AreBytes run_of_two
 are_bytes = (small_bytes (bytes_of its_block) block_small, cleared_bytes)
 
-pub settled : (block : List ℕ) → IsIn block (hashes_of (only_header ∷ [])) → IsFetchedHash run_of_two block
-settled block (inl e) = (only_block, is_fetched, sym e)
-settled block (inr none) = absurd none
-
 -- where one peer alone claims anything nobody differs
 pub claims_alike : (t : Trail) (log : Log) (block : Hash) → ((p : ℕ) (hash : Hash32) → HasClaimed log p block hash → hash_claimed (claims (counted t)) block ≡ Some hash) → IsDisputed log block → ⊥
 claims_alike t log block alone d = d.apart (one_hash (hash_claimed (claims (counted t)) block) (alone d.one d.mine d.claims.0) (alone d.other d.yours d.claims.1)) where
@@ -213,31 +208,8 @@ no_dispute block = claims_alike t_13 run_of_two block (λ p hash.
     of_each (λ t. hash_claimed (claims (counted t)) block ≡ Some hash → hash_claimed (claims (counted t_13)) block ≡ Some hash) p (λ e. e) (λ e. absurd (other_claims_nothing block hash e)) (λ e. cc e))
 
 pub has_asked : (watch : List (List ℕ)) → IsWatch watch → HasAsked watch 1 only_hash (scan_of chain_of_one watch) run_of_two
-has_asked watch fits = record {
-  watchable = fits;
-  bytes = are_bytes;
-  rightly = is_right;
-  told = record {
-    chain = only_header ∷ [];
-    best = record {
-      longest = λ p on. of_each (λ t. length (own (counted t)) ≤ 1) p (one_long t_13 counts_13.chain) other_long (omega arith);
-      shown = inl (
-        1,
-        (
-          of_part (λ t. connected t ≡ true) (part_of run_of_two 1) t_13 part_20 refl,
-          of_part (λ t. own (counted t) ≡ only_header ∷ []) (part_of run_of_two 1) t_13 part_20 counts_13.chain,
-          λ q below on. absurd (nobody_below run_of_two q refl below on),
-        ),
-      );
-    };
-    height_is = refl;
-    hash_is = refl;
-    scanned = record { blocks = chain_of_one; taken = (inl (is_fetched, refl), tt); history = refl };
-  };
-  asked_out = λ p on idle. record {
-    heard_out = of_each (λ t. connected t ≡ true → is_heard_out (counted t) ≡ true) p (λ is1. counts_13.heard_out) (λ is1. same_other.hearing Once) (λ is1. absurd (false≢true is1)) on;
-    claimed = of_each ClaimsIt p (claims_it t_13 only_claim counts_13.claimed counts_13.chain) other_claims nobody_claims;
-    settled = λ h one le above no_filter no_block. inl (settled (hash_at (own (counted_part run_of_two p)) h) (inl (of_each SharesIt p (shares_it t_13 counts_13.chain) other_shares nobody_shares h one le)));
-    tested = λ h one le above got disputed hash claims_it. absurd (no_dispute (hash_at (own (counted_part run_of_two p)) h) disputed);
-  };
-}
+has_asked watch fits =
+    asked_all Once watch (scan_of chain_of_one watch) run_of_two t_13 part_20 refl counts_13.chain refl fits are_bytes is_right
+    (record { blocks = chain_of_one; taken = (inl (is_fetched, refl), tt); history = refl })
+    (λ p. of_each (WasHeard Once) p (heard_it Once t_13 counts_13.chain counts_13.claimed counts_13.heard_out) other_heard (off_heard Once [] refl))
+    (inl (only_block, is_fetched, refl)) (λ block got disputed. no_dispute block disputed)

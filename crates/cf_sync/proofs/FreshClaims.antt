@@ -1,8 +1,9 @@
 -- A peer is asked for no claims a second time.
 use Rattle.std.proofs.Common.{◌≡◌, ◌⊎◌, inl, inr, ℕ, zero, suc, pred, ◌-◌, ◌<◌, ◌≤◌, List, [], ◌∷◌, length, take, Option, Some, None, Bool, true, false, ◌==◌, if◌then◌else◌, refl, sym, ◌∙◌, ap, subst, arith}
-use Rattle.std.proofs.lemmas.Bool.{cases_Bool, false≢true, eqb-true}
+use Rattle.std.proofs.lemmas.Bool.{cases_Bool, eqb-true}
 use Rattle.std.proofs.lemmas.List.{length-map, length-reverse, length-take}
 use Rattle.cf_bytes.specs.declared.hash.Hash32.{Hash32}
+use Rattle.cf_block.specs.declared.header.Header.{Header}
 use Rattle.cf_block.specs.Header.{block_hash_of}
 use Rattle.cf_dispute.specs.declared.claim.Claim.{Claim}
 use Rattle.cf_dispute.specs.Claims.{Table, claim_of, with_claim, with_claims, first_header, header_at}
@@ -12,21 +13,21 @@ use Rattle.cf_headers.specs.Shown.{Shows, AreApart}
 use Rattle.cf_headers.proofs.ChainLaws.{back_in, part_valid}
 use Rattle.cf_headers.proofs.Longest.{same_chain}
 use Rattle.cf_msg.specs.declared.msg.Msg.{Msg}
-use Rattle.cf_msg.specs.declared.msg.Msg.TheVariants.{Ping, Pong, GetHeaders, Headers, GetData, Block as BlockMessage, GetCfheaders, Cfheaders, GetCfilters, Cfilter}
+use Rattle.cf_msg.specs.declared.msg.Msg.TheVariants.{Pong, Headers, Block as BlockMessage, GetCfheaders, Cfheaders, Cfilter}
 use Rattle.cf_peer.specs.declared.peer.Cause.{Cause}
 use Rattle.cf_peer.specs.declared.peer.Cause.TheVariants.{WrongCount, WrongPrevious}
 use Rattle.cf_peer.specs.declared.mode.Mode.TheVariants.{Following}
 use Rattle.cf_wires.specs.Log.{Log}
-use Rattle.cf_peer.specs.Trail.{Trail, Called, Said, Refused, Asked, Passed, Lost, trail, connected, own, WasAsked}
-use Rattle.cf_peer.specs.Asking.{OpenRequest, NothingOpen, ClaimsOpen, is_answer_of, is_this, blocks_from, block_below, claims_asked, claims, claims_after, claims_fault, request, request_for, request_after, fault_of, verdict, lists, IsClaimed, MayAskIn}
+use Rattle.cf_peer.specs.Trail.{Trail, Said, Asked, trail, connected, own, WasAsked}
+use Rattle.cf_peer.specs.Asking.{OpenRequest, NothingOpen, ClaimsOpen, is_answer_of, is_this, blocks_from, block_below, claims_asked, claims, claims_after, claims_fault, request, request_after, fault_of, verdict, lists, IsClaimed, IsRange, MayAskIn}
 use Rattle.cf_sync.specs.Fetching.{AreBytes, IsConnected, MaySendIn, RightlyIn}
 use Rattle.cf_sync.specs.Sync.{IsHashed}
 use Rattle.cf_sync.proofs.Chains.{cases_same}
 use Rattle.cf_sync.proofs.Counted.{first_none, same_use}
-use Rattle.cf_sync.proofs.Fresh.{shown_more, own_is_shown}
+use Rattle.cf_sync.proofs.Fresh.{shown_more, own_is_shown, since_asked, stays_open}
 use Rattle.cf_sync.proofs.Listed.{in_right}
 use Rattle.cf_sync.proofs.Remembers.{AskedRightlyIn, asked_rightly_in}
-use Rattle.cf_seek.proofs.Stops.{back_ends}
+use Rattle.cf_headers.proofs.Found.{back_ends}
 use Rattle.cf_sync.proofs.Settles.{shown_apart}
 
 -- ---- claims stay, and an answer claims all that was asked for
@@ -75,14 +76,30 @@ counts_same n m o e = by (n == m) refl e where
 
 -- ---- since it was asked for claims of a range
 
-record Since (t : Trail) (start : ℕ) (stop : Hash) : Type 0 where
-  chain : Chain
-  shown : Shows (lists t) chain
-  part : Chain
-  tip : back_to stop chain ≡ Some part
-  low : 1 ≤ start
-  high : start ≤ length part
-  since : (request t ≡ ClaimsOpen stop (block_below start part) (blocks_from start part)) ⊎ ((block : Hash) → IsIn block (blocks_from start part) → IsClaimed t block)
+-- a range of a chain that these lists show, from a height up to a hash
+pub record IsShownRange (ls : List (List Header)) (start : ℕ) (stop : Hash) : Type 0 where
+  pub chain : Chain
+  pub shown : Shows ls chain
+  pub part : Chain
+  pub tip : back_to stop chain ≡ Some part
+  pub low : 1 ≤ start
+  pub high : start ≤ length part
+
+abbrev pub range_said : (m : Msg) (t : Trail) (start : ℕ) (stop : Hash) → IsShownRange (lists t) start stop
+    → IsShownRange (lists (Said m ∷ t)) start stop
+range_said m t start stop w =
+    record { chain = w.chain; shown = shown_more m t w.chain w.shown; part = w.part; tip = w.tip; low = w.low; high = w.high }
+
+abbrev pub range_asked : (t : Trail) (filter start : ℕ) (stop : Hash) (few : ℕ) → connected t ≡ true → verdict t ≡ None
+    → IsRange t filter start stop few → IsShownRange (lists t) start stop
+range_asked t filter start stop few on clean r =
+    record { chain = own t; shown = own_is_shown t on clean; part = r.part; tip = r.tip; low = r.low; high = r.high }
+
+abbrev Since : Trail → ℕ → Hash → Type 0
+Since t start stop =
+    (w : IsShownRange (lists t) start stop)
+    × ((request t ≡ ClaimsOpen stop (block_below start w.part) (blocks_from start w.part))
+    ⊎ ((block : Hash) → IsIn block (blocks_from start w.part) → IsClaimed t block))
 
 abbrev HasMoved : Msg → Trail → Hash → Hash → List Hash → Type 0
 HasMoved m t stop parent blocks = (request (Said m ∷ t) ≡ ClaimsOpen stop parent blocks) ⊎ ((block : Hash) → IsIn block blocks → IsClaimed (Said m ∷ t) block)
@@ -107,60 +124,28 @@ moved (Pong number) t stop parent blocks clean e = inl (ap (λ r. request_after 
 moved m t stop parent blocks clean e = inl e
 
 after_said : (m : Msg) (t : Trail) (start : ℕ) (stop : Hash) → fault_of m t ≡ None → Since t start stop → Since (Said m ∷ t) start stop
-after_said m t start stop clean w = record {
-  chain = w.chain;
-  shown = shown_more m t w.chain w.shown;
-  part = w.part;
-  tip = w.tip;
-  low = w.low;
-  high = w.high;
-  since = elim w.since [
-    | inl e ↦ moved m t stop (block_below start w.part) (blocks_from start w.part) clean e
+after_said m t start stop clean w = (
+  range_said m t start stop w.0,
+  elim w.1 [
+    | inl e ↦ moved m t stop (block_below start w.0.part) (blocks_from start w.0.part) clean e
     | inr all ↦ inr (λ block i. keeps_after m (request t) (claims t) block (all block i))
-  ];
-}
-
-still_open : (m : Msg) (t : Trail) (stop parent : Hash) (blocks : List Hash) → MayAskIn Following t m → request t ≡ ClaimsOpen stop parent blocks → request (Asked m ∷ t) ≡ ClaimsOpen stop parent blocks
-still_open (GetHeaders version locator s) t stop parent blocks may e = absurd (let no : ClaimsOpen stop parent blocks ≡ NothingOpen = sym e ∙ may.0.idle in cc)
-still_open (GetCfheaders filter start s) t stop parent blocks may e = absurd (let no : ClaimsOpen stop parent blocks ≡ NothingOpen = sym e ∙ may.0.idle in cc)
-still_open (GetCfilters filter start s) t stop parent blocks may e = absurd (let no : ClaimsOpen stop parent blocks ≡ NothingOpen = sym e ∙ may.0.idle in cc)
-still_open (GetData entries) t stop parent blocks may e = absurd (let no : ClaimsOpen stop parent blocks ≡ NothingOpen = sym e ∙ may.0.idle in cc)
-still_open (Ping number) t stop parent blocks may e = absurd (let no : ClaimsOpen stop parent blocks ≡ NothingOpen = sym e ∙ may.0.idle in cc)
-still_open m t stop parent blocks may e = e
+  ],
+)
 
 has_since : (t : Trail) → connected t ≡ true → verdict t ≡ None → AskedRightlyIn Following t → (filter start : ℕ) (stop : Hash32) → WasAsked t (GetCfheaders filter start stop) → Since t start stop.0
-has_since [] on clean right filter start stop was = absurd was
-has_since (Called ∷ t) on clean right filter start stop was = absurd was
-has_since (Said m ∷ t) on clean right filter start stop was =
-    let parts = first_none (verdict t) (fault_of m t) clean in
-    after_said m t start stop.0 parts.1 (has_since t on parts.0 right filter start stop was)
-has_since (Refused c ∷ t) on clean right filter start stop was = absurd (let e = (first_none (verdict t) (Some c) clean).1 in cc)
-has_since (Asked n ∷ t) on clean right filter start stop (inl e) =
-    let may : MayAskIn Following t (GetCfheaders filter start stop) = subst (λ (m : Msg). MayAskIn Following t m) (sym e) right.0 in
-    record {
-      chain = own t;
-      shown = own_is_shown t on clean;
-      part = may.1.0.part;
-      tip = may.1.0.tip;
-      low = may.1.0.low;
-      high = may.1.0.high;
-      since = inl (sym (ap (λ (m : Msg). request_for m (own t) (request t)) e) ∙ ap (λ o. claims_asked start stop.0 o) may.1.0.tip);
-    }
-has_since (Asked n ∷ t) on clean right filter start stop (inr was) =
-    let w = has_since t on clean right.1 filter start stop was in
-    record {
-      chain = w.chain;
-      shown = w.shown;
-      part = w.part;
-      tip = w.tip;
-      low = w.low;
-      high = w.high;
-      since = elim w.since [ inl e ↦ inl (still_open n t stop.0 (block_below start w.part) (blocks_from start w.part) right.0 e) | inr all ↦ inr all ];
-    }
-has_since (Passed s ∷ t) on clean right filter start stop was =
-    let w = has_since t on clean right filter start stop was in
-    record { chain = w.chain; shown = w.shown; part = w.part; tip = w.tip; low = w.low; high = w.high; since = w.since }
-has_since (Lost w ∷ t) on clean right filter start stop was = absurd (false≢true on)
+has_since t on clean right filter start stop =
+    since_asked Following (GetCfheaders filter start stop) (λ u. Since u start stop.0)
+    (λ u on clean may. (range_asked u filter start stop.0 2000 on clean may.1.0, inl (ap (λ o. claims_asked start stop.0 o) may.1.0.tip)))
+    (λ m u on clean right. after_said m u start stop.0 (first_none (verdict u) (fault_of m u) clean).1)
+    asked (λ s u w. w) t on clean right where
+      asked : (m : Msg) (u : Trail) → MayAskIn Following u m → Since u start stop.0 → Since (Asked m ∷ u) start stop.0
+      asked m u may w = (
+        w.0,
+        elim w.1 [
+          | inl e ↦ inl (stays_open Following m u (ClaimsOpen stop.0 (block_below start w.0.part) (blocks_from start w.0.part)) may (λ no. cc no) e)
+          | inr all ↦ inr all
+        ],
+      )
 
 -- ---- so it isn't asked for them again
 
@@ -168,7 +153,7 @@ pred_low : (start n : ℕ) → 1 ≤ start → start ≤ n → pred start < n
 pred_low zero n low high = absurd (omega (arith, low))
 pred_low (suc k) n low high = omega (arith, high)
 
-pub some_block : (start : ℕ) (part : Chain) → 1 ≤ start → start ≤ length part → (block : Hash) × IsIn block (blocks_from start part)
+some_block : (start : ℕ) (part : Chain) → 1 ≤ start → start ≤ length part → (block : Hash) × IsIn block (blocks_from start part)
 some_block start part low high = by (blocks_from start part) count where
   count : 1 ≤ length (blocks_from start part)
   count =
@@ -183,7 +168,7 @@ some_block start part low high = by (blocks_from start part) count where
   by (x ∷ xs) some = (x, inl refl)
 
 -- two parts of shown chains with one tip are one
-pub one_part : (t : Trail) (a b p q : Chain) (stop : Hash) → AreApart (lists t) → Shows (lists t) a → Shows (lists t) b → back_to stop a ≡ Some p → back_to stop b ≡ Some q → p ≡ q
+one_part : (t : Trail) (a b p q : Chain) (stop : Hash) → AreApart (lists t) → Shows (lists t) a → Shows (lists t) b → back_to stop a ≡ Some p → back_to stop b ≡ Some q → p ≡ q
 one_part t a b p q stop apart sa sb e f =
     let x = back_in stop a p e in
     let y = back_in stop b q f in
@@ -191,18 +176,30 @@ one_part t a b p q stop apart sa sb e f =
     (λ h i. sa.told h (subst (λ (c : Chain). IsIn h c) x.1 (in_right h x.0 p i))) (λ h i. sb.told h (subst (λ (c : Chain). IsIn h c) y.1 (in_right h y.0 q i)))
     (back_ends stop a p e ∙ sym (back_ends stop b q f))
 
+-- a block of the range that it was asked for; one that it may be asked for by the same words has it too
+pub block_again : (log : Log) (p filter start : ℕ) (stop : Hash) (few : ℕ) → AreBytes log → NoHashClash (IsHashed log [])
+    → IsConnected log p → verdict (trail log p) ≡ None → (w : IsShownRange (lists (trail log p)) start stop)
+    (r : IsRange (trail log p) filter start stop few)
+    → (block : Hash) × IsIn block (blocks_from start w.part) × IsIn block (blocks_from start r.part)
+block_again log p filter start stop few bytes clash on clean w r =
+    let t : Trail = trail log p in
+    let apart : AreApart (lists t) = subst AreApart (same_use t on clean).showing (shown_apart log p [] bytes clash) in
+    let one : w.part ≡ r.part = one_part t w.chain (own t) w.part r.part stop apart w.shown (own_is_shown t on clean) w.tip r.tip in
+    let x = some_block start w.part w.low w.high in
+    (x.0, x.1, subst (λ (c : Chain). IsIn x.0 (blocks_from start c)) one x.1)
+
 pub claims_not_again : (log : Log) (p : ℕ) → RightlyIn Following log → AreBytes log → NoHashClash (IsHashed log []) → IsConnected log p → verdict (trail log p) ≡ None
     → (filter start : ℕ) (stop : Hash32) → MaySendIn Following log p (GetCfheaders filter start stop) → WasAsked (trail log p) (GetCfheaders filter start stop) → ⊥
 claims_not_again log p right bytes clash on clean filter start stop may was =
-    let t : Trail = trail log p in
-    let apart : AreApart (lists t) = subst AreApart (same_use t on clean).showing (shown_apart log p [] bytes clash) in
-    let w = has_since t on clean (asked_rightly_in Following log p right) filter start stop was in
-    let range = may.of_its_part.1.0 in
-    elim w.since [
-      | inl e ↦ absurd (let no : ClaimsOpen stop.0 (block_below start w.part) (blocks_from start w.part) ≡ NothingOpen = sym e ∙ may.of_its_part.0.idle in cc)
+    let w = has_since (trail log p) on clean (asked_rightly_in Following log p right) filter start stop was in
+    elim w.1 [
+      | inl e ↦ absurd (
+          let no : ClaimsOpen stop.0 (block_below start w.0.part) (blocks_from start w.0.part) ≡ NothingOpen =
+          sym e ∙ may.of_its_part.0.idle in
+          cc
+          )
       | inr all ↦ (
-          let one : w.part ≡ range.part = one_part t w.chain (own t) w.part range.part stop.0 apart w.shown (own_is_shown t on clean) w.tip range.tip in
-          let x = some_block start w.part w.low w.high in
-          may.of_its_part.1.2 x.0 (subst (λ (c : Chain). IsIn x.0 (blocks_from start c)) one x.1) (all x.0 x.1)
+          let x = block_again log p filter start stop.0 2000 bytes clash on clean w.0 may.of_its_part.1.0 in
+          may.of_its_part.1.2 x.0 x.2 (all x.0 x.1)
           )
     ]

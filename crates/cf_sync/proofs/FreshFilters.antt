@@ -1,5 +1,5 @@
 -- A peer is asked for no filters a second time.
-use Rattle.std.proofs.Common.{◌≡◌, ◌⊎◌, inl, inr, ℕ, ◌≤◌, List, [], ◌∷◌, ◌++◌, length, Option, Some, None, Bool, true, false, ◌==◌, if◌then◌else◌, refl, sym, ◌∙◌, ap, subst, arith}
+use Rattle.std.proofs.Common.{◌≡◌, ◌⊎◌, inl, inr, ℕ, List, [], ◌∷◌, ◌++◌, length, Option, Some, None, Bool, true, false, ◌==◌, if◌then◌else◌, refl, sym, ◌∙◌, ap, subst, arith}
 use Rattle.std.specs.Prelude.{option_map}
 use Rattle.std.proofs.lemmas.List.{length-append}
 use Rattle.std.proofs.lemmas.Bool.{cases_Bool, and_parts, false≢true}
@@ -9,7 +9,6 @@ use Rattle.cf_dispute.specs.Claims.{Table, claim_of, with_claim, with_claims}
 use Rattle.cf_filter.specs.Filter.{filter_hash_of}
 use Rattle.cf_headers.specs.Rules.{same}
 use Rattle.cf_headers.specs.Chain.{Hash, Chain, back_to, IsIn, NoHashClash}
-use Rattle.cf_headers.specs.Shown.{Shows, AreApart}
 use Rattle.cf_match.specs.declared.job.Job.{Job}
 use Rattle.cf_msg.specs.declared.msg.Inventory.{Inventory}
 use Rattle.cf_msg.specs.declared.msg.Msg.{Msg}
@@ -26,12 +25,11 @@ use Rattle.cf_dispute.proofs.PutIn.{same_true}
 use Rattle.cf_sync.proofs.Answered.{came_given}
 use Rattle.cf_sync.proofs.Chains.{cases_same}
 use Rattle.cf_sync.proofs.Counted.{first_none, same_use}
-use Rattle.cf_sync.proofs.Fresh.{shown_more, own_is_shown}
-use Rattle.cf_sync.proofs.FreshClaims.{one_part, some_block}
+use Rattle.cf_sync.proofs.Fresh.{since_asked, stays_open}
+use Rattle.cf_sync.proofs.FreshClaims.{IsShownRange, block_again, range_asked, range_said}
 use Rattle.cf_sync.proofs.Listed.{in_left, in_right, in_either}
 use Rattle.cf_sync.proofs.Remembers.{AskedRightlyIn, asked_rightly_in}
-use Rattle.cf_sync.proofs.Settles.{shown_apart}
-use Rattle.cf_sync.proofs.VerdictsGrow.{said_gives}
+use Rattle.cf_sync.proofs.Grows.{said_gives}
 
 -- ---- what is claimed of a block stays as it is
 
@@ -141,14 +139,9 @@ AreGivenBy m t blocks = (block : Hash) → IsIn block blocks → (job : Job) × 
 abbrev AreGiven : Trail → List Hash → Type 0
 AreGiven t blocks = (block : Hash) → IsIn block blocks → (job : Job) × IsIn job (given (counted t)) × (job.block.0 ≡ block) × IsItsOwn t job
 
-record Since (t : Trail) (start : ℕ) (stop : Hash) : Type 0 where
-  chain : Chain
-  shown : Shows (lists t) chain
-  part : Chain
-  tip : back_to stop chain ≡ Some part
-  low : 1 ≤ start
-  high : start ≤ length part
-  since : AreComing t (blocks_from start part) ⊎ AreGiven t (blocks_from start part)
+abbrev Since : Trail → ℕ → Hash → Type 0
+Since t start stop =
+    (w : IsShownRange (lists t) start stop) × (AreComing t (blocks_from start w.part) ⊎ AreGiven t (blocks_from start w.part))
 
 pub its_own : (m : Msg) (t : Trail) → AreFresh t → (job : Job) → IsItsOwn t job → IsItsOwn (Said m ∷ t) job
 its_own m t fresh job w = (w.0, claim_stays m t fresh job.block.0 w.0 w.1, w.2)
@@ -282,81 +275,48 @@ given_said m t blocks on clean fresh all block i =
     (w.0, subst (λ (js : List Job). IsIn w.0 js) (sym (said_gives m t on clean)) (in_right w.0 (given_by m (request t)) (given (counted t)) w.1), w.2, its_own m t fresh w.0 w.3)
 
 after_said : (m : Msg) (t : Trail) (start : ℕ) (stop : Hash) → connected t ≡ true → verdict (Said m ∷ t) ≡ None → AreFresh t → Since t start stop → Since (Said m ∷ t) start stop
-after_said m t start stop on clean fresh w = record {
-  chain = w.chain;
-  shown = shown_more m t w.chain w.shown;
-  part = w.part;
-  tip = w.tip;
-  low = w.low;
-  high = w.high;
-  since = elim w.since [
-    | inl coming ↦ elim (coming_said m t (blocks_from start w.part) on clean fresh coming) [
+after_said m t start stop on clean fresh w = (
+  range_said m t start stop w.0,
+  elim w.1 [
+    | inl coming ↦ elim (coming_said m t (blocks_from start w.0.part) on clean fresh coming) [
       | inl more ↦ inl more
       | inr now ↦ inr (λ x i. (let g = now x i in (g.0, subst (λ (js : List Job). IsIn g.0 js) (sym (said_gives m t on clean)) (in_left g.0 (given_by m (request t)) (given (counted t)) g.1), g.2, g.3)))
     ]
-    | inr all ↦ inr (given_said m t (blocks_from start w.part) on clean fresh all)
-  ];
+    | inr all ↦ inr (given_said m t (blocks_from start w.0.part) on clean fresh all)
+  ],
+)
+
+-- all are to come
+pub coming_first : (filter start : ℕ) (stop : Hash32) (t : Trail) (part : Chain) → back_to stop.0 (own t) ≡ Some part
+    → AreComing (Asked (GetCfilters filter start stop) ∷ t) (blocks_from start part)
+coming_first filter start stop t part tip = record {
+  left = blocks_from start part;
+  came = [];
+  is = ap (λ o. filters_asked start o) tip;
+  true_ones = λ job i. absurd i;
+  each = λ block i. inr i;
 }
 
-pub still_coming : (m : Msg) (t : Trail) (left : List Hash) (came : List Job) → MayAskIn Following t m → request t ≡ FiltersOpen left came → request (Asked m ∷ t) ≡ FiltersOpen left came
-still_coming (GetHeaders version locator s) t left came may e = absurd (let no : FiltersOpen left came ≡ NothingOpen = sym e ∙ may.0.idle in cc)
-still_coming (GetCfheaders filter start s) t left came may e = absurd (let no : FiltersOpen left came ≡ NothingOpen = sym e ∙ may.0.idle in cc)
-still_coming (GetCfilters filter start s) t left came may e = absurd (let no : FiltersOpen left came ≡ NothingOpen = sym e ∙ may.0.idle in cc)
-still_coming (GetData entries) t left came may e = absurd (let no : FiltersOpen left came ≡ NothingOpen = sym e ∙ may.0.idle in cc)
-still_coming (Ping number) t left came may e = absurd (let no : FiltersOpen left came ≡ NothingOpen = sym e ∙ may.0.idle in cc)
-still_coming m t left came may e = e
-
-after_asked : (n : Msg) (t : Trail) (start : ℕ) (stop : Hash) → MayAskIn Following t n → Since t start stop → Since (Asked n ∷ t) start stop
-after_asked n t start stop may w = record {
-  chain = w.chain;
-  shown = w.shown;
-  part = w.part;
-  tip = w.tip;
-  low = w.low;
-  high = w.high;
-  since = elim w.since [
-    | inl c ↦ inl (record { left = c.left; came = c.came; is = still_coming n t c.left c.came may c.is; true_ones = c.true_ones; each = c.each })
-    | inr all ↦ inr all
-  ];
+-- a question and time leave it so
+pub coming_asked : (m : Msg) (t : Trail) (blocks : List Hash) → MayAskIn Following t m → AreComing t blocks → AreComing (Asked m ∷ t) blocks
+coming_asked m t blocks may c = record {
+  left = c.left;
+  came = c.came;
+  is = stays_open Following m t (FiltersOpen c.left c.came) may (λ no. cc no) c.is;
+  true_ones = c.true_ones;
+  each = c.each;
 }
+
+pub coming_passed : (s : ℕ) (t : Trail) (blocks : List Hash) → AreComing t blocks → AreComing (Passed s ∷ t) blocks
+coming_passed s t blocks c = record { left = c.left; came = c.came; is = c.is; true_ones = c.true_ones; each = c.each }
 
 has_since : (t : Trail) → connected t ≡ true → verdict t ≡ None → AskedRightlyIn Following t → (filter start : ℕ) (stop : Hash32) → WasAsked t (GetCfilters filter start stop) → Since t start stop.0
-has_since [] on clean right filter start stop was = absurd was
-has_since (Called ∷ t) on clean right filter start stop was = absurd was
-has_since (Said m ∷ t) on clean right filter start stop was =
-    let before = (first_none (verdict t) (fault_of m t) clean).0 in
-    after_said m t start stop.0 on clean (are_fresh t on before right) (has_since t on before right filter start stop was)
-has_since (Refused c ∷ t) on clean right filter start stop was = absurd (let e = (first_none (verdict t) (Some c) clean).1 in cc)
-has_since (Asked n ∷ t) on clean right filter start stop (inl e) =
-    let may : MayAskIn Following t (GetCfilters filter start stop) = subst (λ (m : Msg). MayAskIn Following t m) (sym e) right.0 in
-    record {
-      chain = own t;
-      shown = own_is_shown t on clean;
-      part = may.1.0.part;
-      tip = may.1.0.tip;
-      low = may.1.0.low;
-      high = may.1.0.high;
-      since = inl (record {
-        left = blocks_from start may.1.0.part;
-        came = [];
-        is = sym (ap (λ (m : Msg). request_for m (own t) (request t)) e) ∙ ap (λ o. filters_asked start o) may.1.0.tip;
-        true_ones = λ job i. absurd i;
-        each = λ block i. inr i;
-      });
-    }
-has_since (Asked n ∷ t) on clean right filter start stop (inr was) = after_asked n t start stop.0 right.0 (has_since t on clean right.1 filter start stop was)
-has_since (Passed s ∷ t) on clean right filter start stop was =
-    let w = has_since t on clean right filter start stop was in
-    record {
-      chain = w.chain;
-      shown = w.shown;
-      part = w.part;
-      tip = w.tip;
-      low = w.low;
-      high = w.high;
-      since = elim w.since [ inl c ↦ inl (record { left = c.left; came = c.came; is = c.is; true_ones = c.true_ones; each = c.each }) | inr all ↦ inr all ];
-    }
-has_since (Lost w ∷ t) on clean right filter start stop was = absurd (false≢true on)
+has_since t on clean right filter start stop =
+    since_asked Following (GetCfilters filter start stop) (λ u. Since u start stop.0)
+    (λ u on clean may. (range_asked u filter start stop.0 1000 on clean may.1.0, inl (coming_first filter start stop u may.1.0.part may.1.0.tip)))
+    (λ m u on clean right. after_said m u start stop.0 on clean (are_fresh u on (first_none (verdict u) (fault_of m u) clean).0 right))
+    (λ m u may w. (w.0, elim w.1 [ inl c ↦ inl (coming_asked m u (blocks_from start w.0.part) may c) | inr all ↦ inr all ]))
+    (λ s u w. (w.0, elim w.1 [ inl c ↦ inl (coming_passed s u (blocks_from start w.0.part) c) | inr all ↦ inr all ])) t on clean right
 
 -- ---- so it isn't asked for them again
 
@@ -366,17 +326,15 @@ filters_not_by : (planned log : Log) (p : ℕ) → RightlyIn Following log → A
     → (filter start : ℕ) (stop : Hash32) → MaySendIn Following log p (GetCfilters filter start stop) → AreFiltersWanted planned p start stop.0 → WasAsked (trail log p) (GetCfilters filter start stop) → ⊥
 filters_not_by planned log p right bytes clash on clean one filter start stop may needed was =
     let t : Trail = trail log p in
-    let apart : AreApart (lists t) = subst AreApart (same_use t on clean).showing (shown_apart log p [] bytes clash) in
     let w = has_since t on clean (asked_rightly_in Following log p right) filter start stop was in
     let range = may.of_its_part.1.0 in
-    elim w.since [
+    elim w.1 [
       | inl c ↦ absurd (let no : FiltersOpen c.left c.came ≡ NothingOpen = sym c.is ∙ may.of_its_part.0.idle in cc)
       | inr all ↦ (
-          let same : w.part ≡ range.part = one_part t w.chain (own t) w.part range.part stop.0 apart w.shown (own_is_shown t on clean) w.tip range.tip in
-          let x = some_block start w.part w.low w.high in
+          let x = block_again log p filter start stop.0 1000 bytes clash on clean w.0 range in
           let got = all x.0 x.1 in
           let among : IsIn x.0 (blocks_in start (back_to stop.0 (own t))) =
-          subst (λ (o : Option Chain). IsIn x.0 (blocks_in start o)) (sym range.tip) (subst (λ (c : Chain). IsIn x.0 (blocks_from start c)) same x.1) in
+          subst (λ (o : Option Chain). IsIn x.0 (blocks_in start o)) (sym range.tip) x.2 in
           let wanted : IsFilterWanted planned p x.0 = needed x.0 (subst (λ (q : Part). IsIn x.0 (blocks_in start (back_to stop.0 (own q.trail)))) (sym one) among) in
           let claimed : hash_claimed (claims (counted t)) x.0 ≡ Some wanted.1.0 =
           subst (λ (q : Part). hash_claimed (claims (counted q.trail)) x.0 ≡ Some wanted.1.0) one wanted.1.1.1 in

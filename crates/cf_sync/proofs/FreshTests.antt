@@ -23,19 +23,19 @@ use Rattle.cf_wires.specs.declared.event.Event.{Event}
 use Rattle.cf_wires.specs.declared.event.Event.TheVariants.{Dialled, NotDialled, Sent, SendFailed, Closed, Took}
 use Rattle.cf_wires.specs.Log.{Log}
 use Rattle.cf_peer.specs.Trail.{Trail, Part, Said, Refused, Asked, Passed, Lost, Went, Failing, Shutting, called_part, with_item, item_of, item_of_read, hears, hears_fault, part_after, heard_part, spelled, asks, part_of, trail, connected, own}
-use Rattle.cf_peer.specs.Asking.{NothingOpen, FiltersOpen, blocks_from, filters_asked, claims, given, given_by, hash_claimed, request, fault_of, verdict, counted, MayAskIn}
-use Rattle.cf_seek.proofs.Stops.{back_ends}
+use Rattle.cf_peer.specs.Asking.{NothingOpen, FiltersOpen, blocks_from, claims, given, given_by, hash_claimed, request, fault_of, verdict, counted, MayAskIn}
+use Rattle.cf_headers.proofs.Found.{back_ends}
 use Rattle.cf_sync.specs.Blame.{WasAskedSince}
 use Rattle.cf_sync.specs.Fetching.{IsAlone, IsConnected, blocks_in, IsFetchedHash, IsNew, IsTest, IsTested, IsTestOf, MaySendIn, RightlyIn, test_after}
 use Rattle.cf_sync.proofs.Blamed.{tested_stays}
 use Rattle.cf_sync.proofs.Counted.{first_none, same_use}
 use Rattle.cf_sync.proofs.Entries.{at_either}
 use Rattle.cf_sync.specs.Planned.{IsPlanned, is_untold}
-use Rattle.cf_sync.proofs.FreshFilters.{AreComing, AreFresh, IsItsOwn, are_fresh, coming_said, its_own, same_part, still_coming}
+use Rattle.cf_sync.proofs.FreshFilters.{AreComing, AreFresh, IsItsOwn, are_fresh, coming_asked, coming_first, coming_passed, coming_said, its_own, same_part}
 use Rattle.cf_sync.proofs.Listed.{in_left, in_right, reverse_in}
 use Rattle.cf_sync.proofs.Once.{still_connected}
 use Rattle.cf_sync.proofs.Remembers.{AskedRightlyIn, asked_rightly_in}
-use Rattle.cf_sync.proofs.VerdictsGrow.{said_gives}
+use Rattle.cf_sync.proofs.Grows.{said_gives}
 
 -- ---- the last block of a range
 
@@ -121,22 +121,21 @@ since_said base blocks m t on clean fresh w = record {
 
 -- ---- along a log
 
--- since the block at the stop was fetched the filters of a range up to it were asked for: they are coming, or that of the block was tested
-record IsTried (log : Log) (p start : ℕ) (stop : Hash) (t : Trail) : Type 0 where
+-- a range up to the tip of a part of a chain
+record IsTipped (start : ℕ) (stop : Hash) : Type 0 where
   part : Chain
   tip : tip_hash part ≡ stop
   low : 1 ≤ start
   high : start ≤ length part
-  since : (IsTest log p stop × AreComing t (blocks_from start part)) ⊎ ((job : Job) × IsTested log job × (job.block.0 ≡ stop) × IsItsOwn t job)
+
+-- since the block at the stop was fetched the filters of a range up to it were asked for: they are coming, or that of the block was tested
+abbrev IsTried : Log → ℕ → ℕ → Hash → Trail → Type 0
+IsTried log p start stop t =
+    (w : IsTipped start stop)
+    × ((IsTest log p stop × AreComing t (blocks_from start w.part)) ⊎ ((job : Job) × IsTested log job × (job.block.0 ≡ stop) × IsItsOwn t job))
 
 tried_on : (e : Event) (log : Log) (p start : ℕ) (stop : Hash) (t : Trail) → (IsTest log p stop → IsTest (e ∷ log) p stop) → IsTried log p start stop t → IsTried (e ∷ log) p start stop t
-tried_on e log p start stop t test w = record {
-  part = w.part;
-  tip = w.tip;
-  low = w.low;
-  high = w.high;
-  since = elim w.since [ inl c ↦ inl (test c.0, c.1) | inr g ↦ inr (g.0, tested_stays e log g.0 g.1, g.2, g.3) ];
-}
+tried_on e log p start stop t test w = (w.0, elim w.1 [ inl c ↦ inl (test c.0, c.1) | inr g ↦ inr (g.0, tested_stays e log g.0 g.1, g.2, g.3) ])
 
 -- a message that may be sent asks for no other filters while some are coming
 test_stays : (n : Msg) (t : Trail) (log : Log) (block : Hash) (left : List Hash) (came : List Job) (before : Type 0) → MayAskIn Following t n → request t ≡ FiltersOpen left came → before → test_after true (Some n) log block before
@@ -145,65 +144,40 @@ test_stays n t log block left came before may e x = x
 
 tried_asked : (q : PeerNo) (bytes : List ℕ) (n : Msg) (log : Log) (p start : ℕ) (stop : Hash) (t : Trail) → q.0 ≡ p → spelled bytes ≡ Some n → MayAskIn Following t n → IsTried log p start stop t
     → IsTried (Sent q bytes ∷ log) p start stop (Asked n ∷ t)
-tried_asked q bytes n log p start stop t here is may w = record {
-  part = w.part;
-  tip = w.tip;
-  low = w.low;
-  high = w.high;
-  since = elim w.since [
-    | inl c ↦ (
-        let d = c.1 in
-        inl (
-          subst (λ (b : Bool). test_after b (spelled bytes) log stop (IsTest log p stop)) (sym (eq-eqb q.0 p here))
-              (subst (λ (o : Option Msg). test_after true o log stop (IsTest log p stop)) (sym is) (test_stays n t log stop d.left d.came (IsTest log p stop) may d.is c.0)),
-          record { left = d.left; came = d.came; is = still_coming n t d.left d.came may d.is; true_ones = d.true_ones; each = d.each },
-        )
-        )
+tried_asked q bytes n log p start stop t here is may w = (
+  w.0,
+  elim w.1 [
+    | inl c ↦ inl (
+      subst (λ (b : Bool). test_after b (spelled bytes) log stop (IsTest log p stop)) (sym (eq-eqb q.0 p here))
+          (subst (λ (o : Option Msg). test_after true o log stop (IsTest log p stop)) (sym is)
+          (test_stays n t log stop c.1.left c.1.came (IsTest log p stop) may c.1.is c.0)),
+      coming_asked n t (blocks_from start w.0.part) may c.1,
+    )
     | inr g ↦ inr (g.0, tested_stays (Sent q bytes) log g.0 g.1, g.2, g.3)
-  ];
-}
+  ],
+)
 
 tried_first : (q : PeerNo) (bytes : List ℕ) (log : Log) (p filter start : ℕ) (stop : Hash32) (t : Trail) → q.0 ≡ p → spelled bytes ≡ Some (GetCfilters filter start stop) → MayAskIn Following t (GetCfilters filter start stop)
     → IsFetchedHash log stop.0 → IsTried (Sent q bytes ∷ log) p start stop.0 (Asked (GetCfilters filter start stop) ∷ t)
-tried_first q bytes log p filter start stop t here is may fetched = record {
-  part = may.1.0.part;
-  tip = back_ends stop.0 (own t) may.1.0.part may.1.0.tip;
-  low = may.1.0.low;
-  high = may.1.0.high;
-  since = inl (
+tried_first q bytes log p filter start stop t here is may fetched = (
+  record { part = may.1.0.part; tip = back_ends stop.0 (own t) may.1.0.part may.1.0.tip; low = may.1.0.low; high = may.1.0.high },
+  inl (
     subst (λ (b : Bool). test_after b (spelled bytes) log stop.0 (IsTest log p stop.0)) (sym (eq-eqb q.0 p here))
         (subst (λ (o : Option Msg). test_after true o log stop.0 (IsTest log p stop.0)) (sym is) fetched),
-    record {
-      left = blocks_from start may.1.0.part;
-      came = [];
-      is = ap (λ o. filters_asked start o) may.1.0.tip;
-      true_ones = λ job i. absurd i;
-      each = λ block i. inr i;
-    },
-  );
-}
+    coming_first filter start stop t may.1.0.part may.1.0.tip,
+  ),
+)
 
 tried_passed : (s : ℕ) (log : Log) (p start : ℕ) (stop : Hash) (t : Trail) → IsTried log p start stop t → IsTried log p start stop (Passed s ∷ t)
-tried_passed s log p start stop t w = record {
-  part = w.part;
-  tip = w.tip;
-  low = w.low;
-  high = w.high;
-  since = elim w.since [
-    | inl c ↦ (let d = c.1 in inl (c.0, record { left = d.left; came = d.came; is = d.is; true_ones = d.true_ones; each = d.each }))
-    | inr g ↦ inr g
-  ];
-}
+tried_passed s log p start stop t w =
+    (w.0, elim w.1 [ inl c ↦ inl (c.0, coming_passed s t (blocks_from start w.0.part) c.1) | inr g ↦ inr g ])
 
 -- in a piece of the peer's bytes
 tried_heard : (q : PeerNo) (piece : List ℕ) (log : Log) (p start : ℕ) (stop : Hash) → (q.0 == p) ≡ true → IsClean (heard_part piece (part_of log p)).trail → AskedRightlyIn Following (trail log p)
     → IsTried log p start stop (trail log p) → IsTried (Took (Got q piece) ∷ log) p start stop (heard_part piece (part_of log p)).trail
-tried_heard q piece log p start stop is s right w = record {
-  part = w.part;
-  tip = w.tip;
-  low = w.low;
-  high = w.high;
-  since = elim w.since [
+tried_heard q piece log p start stop is s right w = (
+  w.0,
+  elim w.1 [
     | inl c ↦ (
         let base : List Job = given (counted (trail log p)) in
         let a = through (AreSince base blocks) (since_said base blocks) r (trail log p) s right (record { news = []; joined = refl; since = inl c.1 }) in
@@ -213,16 +187,16 @@ tried_heard q piece log p start stop is s right w = record {
         ]
         )
     | inr g ↦ inr (g.0, inr g.1, g.2, through (λ (u : Trail). IsItsOwn u g.0) (λ m u on clean fresh own_one. its_own m u fresh g.0 own_one) r (trail log p) s right g.3)
-  ];
-} where
+  ],
+) where
   r : StreamRead
   r = read_stream ((part_of log p).waits ++ piece)
 
   blocks : List Hash
-  blocks = blocks_from start w.part
+  blocks = blocks_from start w.0.part
 
   last : IsIn stop blocks
-  last = subst (λ (x : Hash). IsIn x blocks) w.tip (tip_last start w.part w.low w.high)
+  last = subst (λ (x : Hash). IsIn x blocks) w.0.tip (tip_last start w.0.part w.0.low w.0.high)
 
   now : IsTest log p stop → (news : List Job) (job : Job) → given (counted (heard_part piece (part_of log p)).trail) ≡ news ++ given (counted (trail log p)) → IsIn job news → job.block.0 ≡ stop
       → IsTest log q.0 job.block.0 × IsNew (Took (Got q piece)) log q.0 job
@@ -308,7 +282,7 @@ tests_not_by : (planned log : Log) (p : ℕ) → RightlyIn Following log → IsC
 tests_not_by planned log p right on clean one tests filter start stop may test was =
     let t : Trail = trail log p in
     let w = is_tried log p filter start stop right was (on, clean) in
-    elim w.since [
+    elim w.1 [
       | inl c ↦ (let d = c.1 in absurd (let no : FiltersOpen d.left d.came ≡ NothingOpen = sym d.is ∙ may.of_its_part.0.idle in cc))
       | inr got ↦ (
           let claimed : hash_claimed (claims (counted t)) stop.0 ≡ Some test.wanted.hash =

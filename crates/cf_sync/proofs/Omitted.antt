@@ -19,9 +19,10 @@ use Rattle.cf_wires.specs.declared.event.Event.TheVariants.{Dialled, NotDialled,
 use Rattle.cf_wires.specs.Log.{Log}
 use Rattle.cf_peer.specs.declared.peer.Cause.{Cause}
 use Rattle.cf_peer.specs.declared.peer.Cause.TheVariants.{BadFrame, Malformed, NoFilters, WrongCount, WrongPrevious, OtherFilter, BadBlock, Omits}
-use Rattle.cf_peer.specs.Trail.{Trail, Part, Called, Said, Refused, Asked, Passed, Lost, Went, Failing, Shutting, asks, called_part, connected, failed, fault_in, first, has_filters, heard_part, hears, hears_fault, item_of, item_of_read, has_version, own, part_of, ready, spelled, trail, went_on, with_item}
-use Rattle.cf_peer.specs.Asking.{OpenRequest, NothingOpen, HeadersOpen, ClaimsOpen, FiltersOpen, BlockOpen, block_fault, claims, claims_fault, fault_of, filter_fault, hash_claimed, is_answer_of, is_committed, is_this, is_wanted, request, verdict}
+use Rattle.cf_peer.specs.Trail.{Trail, Part, Called, Lost, Went, Failing, Shutting, asks, called_part, connected, failed, fault_in, first, has_filters, heard_part, hears, hears_fault, item_of, item_of_read, has_version, own, part_of, ready, spelled, trail, went_on, with_item}
+use Rattle.cf_peer.specs.Asking.{OpenRequest, ClaimsOpen, FiltersOpen, BlockOpen, block_fault, claims, claims_fault, fault_of, filter_fault, hash_claimed, is_answer_of, is_committed, is_this, is_wanted, request, verdict}
 use Rattle.cf_sync.specs.Blame.{HasOmitted}
+use Rattle.cf_sync.proofs.Deaf.{heard_on}
 use Rattle.cf_sync.proofs.Entries.{at_either}
 
 -- ---- no words of a peer's own give this cause
@@ -137,11 +138,8 @@ words_unnamed (e ∷ log) p is = went_unnamed e p (part_of log p) (words_unnamed
 pub off_unfailed : (t : Trail) → connected t ≡ true → failed t ≡ false
 off_unfailed [] on = refl
 off_unfailed (Called ∷ t) on = refl
-off_unfailed (Said m ∷ t) on = off_unfailed t on
-off_unfailed (Refused c ∷ t) on = off_unfailed t on
-off_unfailed (Asked m ∷ t) on = off_unfailed t on
-off_unfailed (Passed s ∷ t) on = off_unfailed t on
 off_unfailed (Lost w ∷ t) on = absurd (false≢true on)
+off_unfailed (i ∷ t) on = off_unfailed t on
 
 frame_failed : (f : Frame) (t : Trail) → failed (item_of f ∷ t) ≡ failed t
 frame_failed f t = elim (message_of f) as (λ r. failed (item_of_read r ∷ t) ≡ failed t) [ Ok m ↦ refl | Err e ↦ refl ]
@@ -199,27 +197,9 @@ omitted_unfailed (Took Ended ∷ log) p h = omitted_unfailed log p h
 
 -- ---- who has omitted something is cut off
 
-frame_connected : (f : Frame) (t : Trail) → connected (item_of f ∷ t) ≡ connected t
-frame_connected f t = elim (message_of f) as (λ r. connected (item_of_read r ∷ t) ≡ connected t) [
-  | Ok m ↦ refl
-  | Err e ↦ refl
-]
-
-hears_connected : (fs : List Frame) (t : Trail) → connected (hears fs t) ≡ connected t
-hears_connected [] t = refl
-hears_connected (f ∷ fs) t = hears_connected fs (item_of f ∷ t) ∙ frame_connected f t
-
-end_connected : (o : Option FrameFault) (t : Trail) → connected (hears_fault o t) ≡ connected t
-end_connected None t = refl
-end_connected (Some fault) t = refl
-
 asks_connected : (o : Option Msg) (t : Trail) → connected (asks o t) ≡ connected t
 asks_connected None t = refl
 asks_connected (Some m) t = refl
-
-piece_connected : (piece : List ℕ) (part : Part) → connected (heard_part piece part).trail ≡ connected part.trail
-piece_connected piece part = (let r = read_stream (part.waits ++ piece) in
-    end_connected r.fault (hears r.frames part.trail) ∙ hears_connected r.frames part.trail)
 
 abbrev IsCutOff : Part → Type 0
 IsCutOff part = connected part.trail ≡ false
@@ -247,7 +227,7 @@ omitted_cut_off (Closed q ∷ log) p (inr before) =
     (λ off. omitted_cut_off log p before)
 omitted_cut_off (Took (Got q piece) ∷ log) p h =
     at_either IsCutOff (q.0 == p) (heard_part piece (part_of log p)) (part_of log p)
-    (λ is. piece_connected piece (part_of log p) ∙ omitted_cut_off log p h) (λ off. omitted_cut_off log p h)
+    (λ is. heard_on piece (part_of log p) ∙ omitted_cut_off log p h) (λ off. omitted_cut_off log p h)
 omitted_cut_off (Took (Gone q) ∷ log) p h =
     at_either IsCutOff (q.0 == p) (with_item (Lost Went) (part_of log p)) (part_of log p)
     (λ is. refl) (λ off. omitted_cut_off log p h)

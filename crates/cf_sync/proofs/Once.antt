@@ -37,41 +37,18 @@ either : (P : OpenRequest → Type 0) (b : Bool) (x y : OpenRequest) → (b ≡ 
 either P true x y is off = is refl
 either P false x y is off = off refl
 
-pub blocks_said : (m : Msg) (r : OpenRequest) (block : Hash) → IsIn block (blocks_open (request_after m r)) → IsIn block (blocks_open r)
-blocks_said (Headers hs) NothingOpen block i = i
-blocks_said (Headers hs) HeadersOpen block i = i
-blocks_said (Headers hs) (ClaimsOpen stop parent bs) block i = i
-blocks_said (Headers hs) (FiltersOpen left came) block i = i
-blocks_said (Headers hs) (BlockOpen wanted) block i = i
-blocks_said (Cfheaders filter stop previous hashes) NothingOpen block i = i
-blocks_said (Cfheaders filter stop previous hashes) HeadersOpen block i = i
-blocks_said (Cfheaders filter stop previous hashes) (ClaimsOpen wanted parent bs) block i =
-    either (λ r. IsIn block (blocks_open r) → ⊥) (is_answer_of filter stop.0 wanted) NothingOpen (ClaimsOpen wanted parent bs) (λ is1 j. j) (λ off j. j) i
-blocks_said (Cfheaders filter stop previous hashes) (FiltersOpen left came) block i = i
-blocks_said (Cfheaders filter stop previous hashes) (BlockOpen wanted) block i = i
-blocks_said (Cfilter filter b bytes) NothingOpen block i = i
-blocks_said (Cfilter filter b bytes) HeadersOpen block i = i
-blocks_said (Cfilter filter b bytes) (ClaimsOpen stop parent bs) block i = i
-blocks_said (Cfilter filter b bytes) (FiltersOpen [] came) block i = i
-blocks_said (Cfilter filter b bytes) (FiltersOpen (next ∷ []) came) block i =
-    either (λ r. IsIn block (blocks_open r) → ⊥) (is_answer_of filter b.0 next) NothingOpen (FiltersOpen (next ∷ []) came) (λ is1 j. j) (λ off j. j) i
-blocks_said (Cfilter filter b bytes) (FiltersOpen (next ∷ x ∷ left) came) block i =
-    either (λ r. IsIn block (blocks_open r) → ⊥) (is_answer_of filter b.0 next) (FiltersOpen (x ∷ left) (came ++ filter_of b bytes ∷ [])) (FiltersOpen (next ∷ x ∷ left) came) (λ is1 j. j) (λ off j. j) i
-blocks_said (Cfilter filter b bytes) (BlockOpen wanted) block i = i
-blocks_said (BlockMessage b) NothingOpen block i = i
-blocks_said (BlockMessage b) HeadersOpen block i = i
-blocks_said (BlockMessage b) (ClaimsOpen stop parent bs) block i = i
-blocks_said (BlockMessage b) (FiltersOpen left came) block i = i
-blocks_said (BlockMessage b) (BlockOpen wanted) block i =
-    either (λ r. IsIn block (blocks_open r) → IsIn block (wanted ∷ [])) (is_wanted b wanted) NothingOpen (BlockOpen wanted) (λ is1 j. absurd j) (λ off j. j) i
-blocks_said (Pong number) NothingOpen block i = i
-blocks_said (Pong number) HeadersOpen block i = i
-blocks_said (Pong number) (ClaimsOpen stop parent bs) block i = i
-blocks_said (Pong number) (FiltersOpen left came) block i = i
-blocks_said (Pong number) (BlockOpen wanted) block i = i
-blocks_said (Pong number) (PingOpen wanted) block i =
-    either (λ r. IsIn block (blocks_open r) → ⊥) (number == wanted) NothingOpen (PingOpen wanted) (λ is1 j. j) (λ off j. j) i
-blocks_said m r block i = i
+-- in the one request stand no other filters and no other blocks than in the other
+record IsWithin (r other : OpenRequest) : Type 0 where
+  filters : (block : Hash) → IsIn block (filters_open r) → IsIn block (filters_open other)
+  blocks : (block : Hash) → IsIn block (blocks_open r) → IsIn block (blocks_open other)
+
+within_itself : (r : OpenRequest) → IsWithin r r
+within_itself r = record { filters = λ block i. i; blocks = λ block i. i }
+
+-- one that ends
+nothing_within : (b : Bool) (r : OpenRequest) → IsWithin (if b then NothingOpen else r) r
+nothing_within true r = record { filters = λ block i. absurd i; blocks = λ block i. absurd i }
+nothing_within false r = within_itself r
 
 -- the filter that came moves over
 pub moved : (came : List Job) (j : Job) (next : Hash) (left : List Hash) (block : Hash) → j.block.0 ≡ next → IsIn block (map (λ (j : Job). j.block.0) (came ++ j ∷ []) ++ left) → IsIn block (map (λ (j : Job). j.block.0) came ++ next ∷ left)
@@ -89,41 +66,35 @@ moved_back (c ∷ came) j next left block e (inr i) = inr (moved_back came j nex
 pub answered : (filter : ℕ) (a b : Hash) → is_answer_of filter a b ≡ true → a ≡ b
 answered filter a b e = same_true a b (and_parts (filter == 0) _ e).1
 
+said_within : (m : Msg) (r : OpenRequest) → IsWithin (request_after m r) r
+said_within (Headers hs) HeadersOpen = nothing_within true HeadersOpen
+said_within (Headers hs) r = within_itself r
+said_within (Cfheaders filter stop previous hashes) (ClaimsOpen wanted parent bs) =
+    nothing_within (is_answer_of filter stop.0 wanted) (ClaimsOpen wanted parent bs)
+said_within (Cfheaders filter stop previous hashes) r = within_itself r
+said_within (Cfilter filter b bytes) (FiltersOpen [] came) = within_itself (FiltersOpen [] came)
+said_within (Cfilter filter b bytes) (FiltersOpen (next ∷ []) came) =
+    nothing_within (is_answer_of filter b.0 next) (FiltersOpen (next ∷ []) came)
+said_within (Cfilter filter b bytes) (FiltersOpen (next ∷ x ∷ left) came) =
+    either (λ r. IsWithin r (FiltersOpen (next ∷ x ∷ left) came)) (is_answer_of filter b.0 next)
+    (FiltersOpen (x ∷ left) (came ++ filter_of b bytes ∷ [])) (FiltersOpen (next ∷ x ∷ left) came)
+    (λ is1. record {
+      filters = λ block j. moved came (filter_of b bytes) next (x ∷ left) block (answered filter b.0 next is1) j;
+      blocks = λ block j. j;
+    })
+    (λ off. within_itself (FiltersOpen (next ∷ x ∷ left) came))
+said_within (Cfilter filter b bytes) r = within_itself r
+said_within (BlockMessage b) (BlockOpen wanted) = nothing_within (is_wanted b wanted) (BlockOpen wanted)
+said_within (BlockMessage b) r = within_itself r
+said_within (Pong number) (PingOpen wanted) = nothing_within (number == wanted) (PingOpen wanted)
+said_within (Pong number) r = within_itself r
+said_within m r = within_itself r
+
+pub blocks_said : (m : Msg) (r : OpenRequest) (block : Hash) → IsIn block (blocks_open (request_after m r)) → IsIn block (blocks_open r)
+blocks_said m r = (said_within m r).blocks
+
 pub filters_said : (m : Msg) (r : OpenRequest) (block : Hash) → IsIn block (filters_open (request_after m r)) → IsIn block (filters_open r)
-filters_said (Headers hs) NothingOpen block i = i
-filters_said (Headers hs) HeadersOpen block i = i
-filters_said (Headers hs) (ClaimsOpen stop parent bs) block i = i
-filters_said (Headers hs) (FiltersOpen left came) block i = i
-filters_said (Headers hs) (BlockOpen wanted) block i = i
-filters_said (Cfheaders filter stop previous hashes) NothingOpen block i = i
-filters_said (Cfheaders filter stop previous hashes) HeadersOpen block i = i
-filters_said (Cfheaders filter stop previous hashes) (ClaimsOpen wanted parent bs) block i =
-    either (λ r. IsIn block (filters_open r) → ⊥) (is_answer_of filter stop.0 wanted) NothingOpen (ClaimsOpen wanted parent bs) (λ is1 j. j) (λ off j. j) i
-filters_said (Cfheaders filter stop previous hashes) (FiltersOpen left came) block i = i
-filters_said (Cfheaders filter stop previous hashes) (BlockOpen wanted) block i = i
-filters_said (Cfilter filter b bytes) NothingOpen block i = i
-filters_said (Cfilter filter b bytes) HeadersOpen block i = i
-filters_said (Cfilter filter b bytes) (ClaimsOpen stop parent bs) block i = i
-filters_said (Cfilter filter b bytes) (FiltersOpen [] came) block i = i
-filters_said (Cfilter filter b bytes) (FiltersOpen (next ∷ []) came) block i =
-    either (λ r. IsIn block (filters_open r) → IsIn block (filters_open (FiltersOpen (next ∷ []) came))) (is_answer_of filter b.0 next) NothingOpen (FiltersOpen (next ∷ []) came) (λ is1 j. absurd j) (λ off j. j) i
-filters_said (Cfilter filter b bytes) (FiltersOpen (next ∷ x ∷ left) came) block i =
-    either (λ r. IsIn block (filters_open r) → IsIn block (filters_open (FiltersOpen (next ∷ x ∷ left) came))) (is_answer_of filter b.0 next) (FiltersOpen (x ∷ left) (came ++ filter_of b bytes ∷ [])) (FiltersOpen (next ∷ x ∷ left) came)
-    (λ is1 j. moved came (filter_of b bytes) next (x ∷ left) block (answered filter b.0 next is1) j) (λ off j. j) i
-filters_said (Cfilter filter b bytes) (BlockOpen wanted) block i = i
-filters_said (BlockMessage b) NothingOpen block i = i
-filters_said (BlockMessage b) HeadersOpen block i = i
-filters_said (BlockMessage b) (ClaimsOpen stop parent bs) block i = i
-filters_said (BlockMessage b) (FiltersOpen left came) block i = i
-filters_said (BlockMessage b) (BlockOpen wanted) block i = either (λ r. IsIn block (filters_open r) → ⊥) (is_wanted b wanted) NothingOpen (BlockOpen wanted) (λ is1 j. j) (λ off j. j) i
-filters_said (Pong number) NothingOpen block i = i
-filters_said (Pong number) HeadersOpen block i = i
-filters_said (Pong number) (ClaimsOpen stop parent bs) block i = i
-filters_said (Pong number) (FiltersOpen left came) block i = i
-filters_said (Pong number) (BlockOpen wanted) block i = i
-filters_said (Pong number) (PingOpen wanted) block i =
-    either (λ r. IsIn block (filters_open r) → ⊥) (number == wanted) NothingOpen (PingOpen wanted) (λ is1 j. j) (λ off j. j) i
-filters_said m r block i = i
+filters_said m r = (said_within m r).filters
 
 -- ---- what is asked is open to nobody
 
@@ -138,17 +109,23 @@ IsUnfetched log block = IsFetchedHash log block → ⊥
 abbrev IsNewFilter : Log → Hash → Type 0
 IsNewFilter log block = IsUnfetched log block → IsFilterOpen log block → ⊥
 
+-- neither filters nor blocks stand in a request for claims, nor blocks in one for filters
+bare_claims : (start : ℕ) (stop : Hash) (o : Option Chain)
+    → (filters_open (claims_asked start stop o) ≡ []) × (blocks_open (claims_asked start stop o) ≡ [])
+bare_claims start stop None = (refl, refl)
+bare_claims start stop (Some part) = (refl, refl)
+
+no_blocks_in : (start : ℕ) (o : Option Chain) → blocks_open (filters_asked start o) ≡ []
+no_blocks_in start None = refl
+no_blocks_in start (Some part) = refl
+
 blocks_asked : (log : Log) (p : ℕ) (m : Msg) (block : Hash) → MaySendIn Following log p m → IsIn block (blocks_open (request_for m (own (trail log p)) (request (trail log p))))
     → IsIn block (blocks_open (request (trail log p))) ⊎ IsNewBlock log block
 blocks_asked log p (GetHeaders version locator stop) block may i = absurd i
-blocks_asked log p (GetCfheaders filter start stop) block may i = absurd (by (back_to stop.0 (own (trail log p))) i) where
-  by : (o : Option Chain) → IsIn block (blocks_open (claims_asked start stop.0 o)) → ⊥
-  by None i = i
-  by (Some part) i = i
-blocks_asked log p (GetCfilters filter start stop) block may i = absurd (by (back_to stop.0 (own (trail log p))) i) where
-  by : (o : Option Chain) → IsIn block (blocks_open (filters_asked start o)) → ⊥
-  by None i = i
-  by (Some part) i = i
+blocks_asked log p (GetCfheaders filter start stop) block may i =
+    absurd (subst (λ (bs : List Hash). IsIn block bs) (bare_claims start stop.0 (back_to stop.0 (own (trail log p)))).1 i)
+blocks_asked log p (GetCfilters filter start stop) block may i =
+    absurd (subst (λ (bs : List Hash). IsIn block bs) (no_blocks_in start (back_to stop.0 (own (trail log p)))) i)
 blocks_asked log p (GetData entries) block may i =
     let at : Hash32 = may.of_its_part.1.0 in
     let is : entries ≡ block_entry at ∷ [] = may.of_its_part.1.1 in
@@ -168,10 +145,8 @@ blocks_asked log p m block may i = inl i
 filters_asked_new : (log : Log) (p : ℕ) (m : Msg) (block : Hash) → MaySendIn Following log p m → IsIn block (filters_open (request_for m (own (trail log p)) (request (trail log p))))
     → IsIn block (filters_open (request (trail log p))) ⊎ IsNewFilter log block
 filters_asked_new log p (GetHeaders version locator stop) block may i = absurd i
-filters_asked_new log p (GetCfheaders filter start stop) block may i = absurd (by (back_to stop.0 (own (trail log p))) i) where
-  by : (o : Option Chain) → IsIn block (filters_open (claims_asked start stop.0 o)) → ⊥
-  by None i = i
-  by (Some part) i = i
+filters_asked_new log p (GetCfheaders filter start stop) block may i =
+    absurd (subst (λ (bs : List Hash). IsIn block bs) (bare_claims start stop.0 (back_to stop.0 (own (trail log p)))).0 i)
 filters_asked_new log p (GetCfilters filter start stop) block may i = by (back_to stop.0 (own (trail log p))) (λ b. may.alone b) i where
   by : (o : Option Chain) → ((b : Hash) → IsIn b (blocks_in start o) → IsNewFilter log b) → IsIn block (filters_open (filters_asked start o)) → IsIn block (filters_open (request (trail log p))) ⊎ IsNewFilter log block
   by None alone i = absurd i

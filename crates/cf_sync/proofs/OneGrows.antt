@@ -2,7 +2,7 @@
 -- moments, and their texts are put.
 use Rattle.std.proofs.Common.{if◌then◌else◌, ◌≡◌, ◌≢◌, inl, inr, ℕ, pos, ◌<◌, ◌≤◌, List, [], ◌∷◌, ◌++◌, length, Some, None, Bool, true, false, not, ◌==◌, refl, sym, ◌∙◌, ap, subst, arith}
 use Rattle.std.specs.Fmt.{digits}
-use Rattle.std.specs.Prelude.{bytes_eq, option_map}
+use Rattle.std.specs.Prelude.{bytes_eq}
 use Rattle.std.proofs.lemmas.Bool.{cases_Bool, false≢true, eqb-true}
 use Rattle.sha2.specs.Sha256.{compress, digest_bytes, first_words, hash_after, rounds, schedule, sha256}
 use Rattle.cf_bytes.specs.Compact.{compact}
@@ -14,13 +14,10 @@ use Rattle.cf_chain.specs.Grow.{answered}
 use Rattle.cf_chain.specs.Heights.{block_height}
 use Rattle.cf_chain.specs.Serve.{version_reply, fork_height, most_headers}
 use Rattle.cf_chain.proofs.Answering.{nothing_above}
-use Rattle.cf_dispute.specs.declared.claim.Claim.{Claim}
 use Rattle.cf_dispute.specs.Claims.{Table, no_claims, with_claim}
-use Rattle.cf_filter.specs.Filter.{match_of}
 use Rattle.cf_frame.specs.Frame.{spelling}
 use Rattle.cf_headers.specs.Chain.{Chain, IsIn, NoHashClash}
-use Rattle.cf_headers.specs.Heights.{hash_at, common_of}
-use Rattle.cf_match.specs.Verdicts.{is_miss}
+use Rattle.cf_headers.specs.Heights.{common_of}
 use Rattle.cf_msg.specs.declared.msg.Msg.{Msg}
 use Rattle.cf_msg.specs.declared.msg.Msg.TheVariants.{Verack, Headers, Block as BlockMessage}
 use Rattle.cf_msg.specs.Message.{payload_of}
@@ -31,24 +28,23 @@ use Rattle.cf_peer.specs.declared.mode.Mode.TheVariants.{Following}
 use Rattle.cf_peer.specs.Acts.{bytes_of, IsSendable}
 use Rattle.cf_wires.specs.Log.{Log}
 use Rattle.cf_peer.specs.Trail.{Trail, Part, Called, Said, Asked, Passed, called_part, with_item, heard_part, spelled, asks, part_of, trail, connected, own, is_heard_out_in, first}
-use Rattle.cf_peer.specs.Asking.{NothingOpen, ClaimsOpen, FiltersOpen, is_idle, is_spare, is_open, age, request, request_after, claims, claims_after, claims_asked, filters_asked, claims_fault, filter_fault, fault_of, verdict, counted, given, given_by, filter_of, hash_claimed, hashes_of, HasSaid, IsFree, block_entry, MayAskIn}
+use Rattle.cf_peer.specs.Asking.{NothingOpen, ClaimsOpen, FiltersOpen, is_idle, is_spare, is_open, age, request, request_after, claims, claims_after, claims_asked, filters_asked, claims_fault, filter_fault, fault_of, verdict, counted, given, given_by, filter_of, HasSaid, IsFree, block_entry, MayAskIn}
 use Rattle.cf_scan.specs.HistoryText.{history_text}
 use Rattle.cf_scan.specs.Watching.{IsWatch}
 use Rattle.cf_sync.specs.Example.{only_header, only_hash, chain_of_one, honest_peer, our_version, its_version, question, its_headers, false_headers, ask_claims, its_claims, ask_filter, its_filter, genesis_hash, no_stop, only_filter, only_filter_hash, genesis_filter_header, other_watch, log_1, log_2}
 use Rattle.cf_sync.specs.Growth.{ping_one, pong_one, news, grow_3, grow_4, grow_5, grow_6, first_quiet, grow_8, grow_9, grow_10, grow_11, grow_12, grow_13, grow_14, grow_15, grow_16, growing_run}
-use Rattle.cf_sync.specs.Fetching.{counted_part, IsQuiet, IsFetched, IsCleared, RightlyIn, MayTake, AreBytes, IsConnected}
+use Rattle.cf_sync.specs.Fetching.{IsQuiet, IsFetched, IsCleared, RightlyIn, MayTake, AreBytes, IsConnected}
 use Rattle.cf_sync.specs.Honesty.{was_called}
 use Rattle.cf_sync.specs.Growing.{Turn, Reaches, IsGrowingOver, IsGrowing, IsTold, OthersShowNone}
 use Rattle.cf_sync.specs.Putting.{ArePut, PutsAt, WerePut, put}
 use Rattle.cf_sync.specs.Sync.{strings_of, IsHashed, HasAskedIn}
 use Rattle.cf_sync.proofs.Alone.{IsNoneFetching, none_filters}
-use Rattle.cf_sync.proofs.Answered.{came_given}
-use Rattle.cf_sync.proofs.Computed.{name_is, are_small, small_bytes, version_small, verack_small, headers_small, false_headers_small, claims_small, filter_small}
+use Rattle.cf_sync.proofs.Computed.{are_small, small_bytes, version_small, verack_small, headers_small, false_headers_small, claims_small, filters_small}
 use Rattle.cf_sync.proofs.Counted.{same_use, said_counts}
-use Rattle.cf_sync.proofs.Filters.{only_filter_hash_is, only_misses}
 use Rattle.cf_sync.proofs.Chains.{same_self}
-use Rattle.cf_sync.proofs.TwoPeers.{IsKnown, no_clash, chain_known, headers_known, filter_known, SaysKnown, good_chain, has_room, headers_answer, claims_answer, filter_answer, accepted, of_part, other_hash, self_hash, back_only, may_ask_of, may_ask_filter_of, only_claim, hash_same, first_same, own_7, HasNone, unsaid, still_true, ClaimsIt, claims_it, SharesIt, shares_it, nobody_below}
+use Rattle.cf_sync.proofs.TwoPeers.{IsKnown, no_clash, chain_known, headers_known, filter_known, SaysKnown, good_chain, has_room, headers_answer, claims_answer, filter_answer, accepted, of_part, other_hash, self_hash, back_only, may_ask_of, may_ask_filter_of, only_claim, hash_same, first_same, own_7, HasNone, unsaid, still_true, WasHeard, asked_all, best_is_its, heard_it, off_heard}
 use Rattle.cf_sync.proofs.Written.{at_rest, spelled_is, sent_part, got_part, our_sendable, its_sendable, verack_sendable, question_sendable, headers_sendable, none_sendable, claims_sendable, filter_sendable, ask_claims_sendable, ask_filter_sendable, entry_fits}
+use Rattle.cf_sync.proofs.Cleared.{AgreesWithIt, cleared_by, its_agrees, silent_agrees}
 
 -- ---- its messages
 
@@ -677,9 +673,9 @@ bytes_7 = (
 
 bytes_17 : AreBytes growing_run
 bytes_17 = (
-  small_bytes (bytes_of its_filter) filter_small,
+  small_bytes (bytes_of its_filter) filters_small.0,
   (
-    small_bytes (bytes_of its_claims) claims_small,
+    small_bytes (bytes_of its_claims) claims_small.0,
     (
       small_bytes (bytes_of its_headers) headers_small,
       (small_bytes (bytes_of pong_one) pong_small, (small_bytes (bytes_of news) news_small, bytes_7)),
@@ -712,18 +708,9 @@ first_asked = record {
   rightly = right_7;
   told = record {
     chain = [];
-    best = record {
-      longest = λ p on. at_one (λ t. length (own (counted t)) ≤ 0) first_quiet v_7 p p_7 one_7
-          (let e = ap (λ (c : Chain). length c) (same_use v_7 refl refl).chain in omega (arith, e)) (omega arith);
-      shown = inl (
-        1,
-        (
-          of_part (λ t. connected t ≡ true) (part_of first_quiet 1) v_7 p_7 refl,
-          of_part (λ t. own (counted t) ≡ []) (part_of first_quiet 1) v_7 p_7 (same_use v_7 refl refl).chain,
-          λ q below on. absurd (nobody_below first_quiet q refl below on),
-        ),
-      );
-    };
+    best = best_is_its first_quiet v_7 [] p_7 refl (same_use v_7 refl refl).chain refl
+        (λ p on. at_one (λ t. length (own (counted t)) ≤ 0) first_quiet v_7 p p_7 one_7
+        (let e = ap (λ (c : Chain). length c) (same_use v_7 refl refl).chain in omega (arith, e)) (omega arith));
     height_is = refl;
     hash_is = refl;
     scanned = record { blocks = []; taken = tt; history = refl };
@@ -759,10 +746,6 @@ given_17 =
     subst (λ (t : Trail). IsIn (filter_of only_hash only_filter) (given t)) (sym one)
     (subst (λ js. IsIn (filter_of only_hash only_filter) (js ++ given (counted v_16))) (sym by) (inl refl))
 
-abbrev AgreesWithIt : Trail → Type 0
-AgreesWithIt t = (hash : Hash32) → hash_claimed (claims (counted t)) only_hash.0 ≡ Some hash
-    → hash ≡ record { 0 = only_filter_hash }
-
 no_block : (b : Block) → HasSaid v_17 (BlockMessage b) → ⊥
 no_block b (inl e) = cc
 no_block b (inr (inl e)) = cc
@@ -778,77 +761,18 @@ none_fetched : (b : Block) → IsFetched growing_run b → ⊥
 none_fetched b got = at_one HasNone growing_run v_17 got.0 p_17 one_17 (unsaid v_17 no_block) (λ c i. i) b got.1
 
 cleared : IsCleared other_watch growing_run only_hash.0
-cleared = record {
-  hash = record { 0 = only_filter_hash };
-  agreed = record {
-    who = 1;
-    there = of_part (λ t. connected t ≡ true) (part_of growing_run 1) v_17 p_17 refl;
-    claims = of_part (λ t. hash_claimed (claims (counted t)) only_hash.0 ≡ Some (record { 0 = only_filter_hash }))
-        (part_of growing_run 1) v_17 p_17
-        (ap (λ o. option_map (λ (c : Claim). c.hash) o) claimed_17);
-    alone = λ p hash on is. at_one AgreesWithIt growing_run v_17 p p_17 one_17
-        (λ hash e. let f : Some (record { 0 = only_filter_hash }) ≡ Some hash =
-        sym (ap (λ o. option_map (λ (c : Claim). c.hash) o) claimed_17) ∙ e in
-        let g : record { 0 = only_filter_hash } ≡ hash = cc in sym g)
-        (λ hash e. absurd (let f : None ≡ Some hash = e in cc)) hash is;
-  };
-  filter = filter_of only_hash only_filter;
-  given = came_given growing_run 1 (filter_of only_hash only_filter)
-      (of_part (λ t. IsIn (filter_of only_hash only_filter) (given (counted t))) (part_of growing_run 1) v_17 p_17
-      given_17)
-      (λ got. none_fetched got.0 got.1);
-  of_block = refl;
-  this = only_filter_hash_is;
-  verdict = ap (λ (x : List ℕ). is_miss (match_of x other_watch only_filter)) name_is ∙ ap is_miss only_misses;
-}
-
-cleared_settled : (block : List ℕ) → IsIn block (hashes_of (only_header ∷ [])) → IsCleared other_watch growing_run block
-cleared_settled block (inl e) = subst (λ (x : List ℕ). IsCleared other_watch growing_run x) (sym e) cleared
-cleared_settled block (inr none) = absurd none
+cleared =
+    cleared_by growing_run v_17 p_17 refl claimed_17 given_17
+    (λ p. at_one AgreesWithIt growing_run v_17 p p_17 one_17 (its_agrees v_17 claimed_17) (silent_agrees (Passed 5 ∷ []) refl))
+    (λ got. none_fetched got.0 got.1)
 
 pub growing_asked : HasAskedIn Following other_watch 1 only_hash [] growing_run
-growing_asked = record {
-  watchable = watch_fits;
-  bytes = bytes_17;
-  rightly = growing_right;
-  told = record {
-    chain = only_header ∷ [];
-    best = record {
-      longest = λ p on. at_one (λ t. length (own (counted t)) ≤ 1) growing_run v_17 p p_17 one_17
-          (let e = ap (λ (c : Chain). length c) chain_17 in omega (arith, e)) (omega arith);
-      shown = inl (
-        1,
-        (
-          of_part (λ t. connected t ≡ true) (part_of growing_run 1) v_17 p_17 refl,
-          of_part (λ t. own (counted t) ≡ only_header ∷ []) (part_of growing_run 1) v_17 p_17 chain_17,
-          λ q below on. absurd (nobody_below growing_run q refl below on),
-        ),
-      );
-    };
-    height_is = refl;
-    hash_is = refl;
-    scanned = record {
-      blocks = record { header = only_header; txs = [] } ∷ [];
-      taken =
-          (inr ((λ got. none_fetched got.0 got.1), refl), tt);
-      history = refl;
-    };
-  };
-  asked_out = λ p on idle. record {
-    heard_out = at_one (λ t. connected t ≡ true → is_heard_out_in Following (counted t) ≡ true) growing_run v_17 p p_17 one_17
-        (λ is1. heard_17) (λ is1. absurd (false≢true is1)) on;
-    claimed = at_one ClaimsIt growing_run v_17 p p_17 one_17 (claims_it v_17 only_claim claimed_17 chain_17)
-        ticks_claim;
-    settled = λ h one le above no_filter no_block. inr (cleared_settled (hash_at (own (counted_part growing_run p)) h)
-        (inl (at_one SharesIt growing_run v_17 p p_17 one_17 (shares_it v_17 chain_17) ticks_share h one le)));
-    tested = λ h one le above got disputed hash claims_this. absurd (none_fetched got.0 got.1);
-  };
-} where
-  ticks_claim : ClaimsIt (Passed 5 ∷ [])
-  ticks_claim h one le = absurd (omega (arith, one, le))
-
-  ticks_share : SharesIt (Passed 5 ∷ [])
-  ticks_share h one le = absurd (omega (arith, one, le))
+growing_asked =
+    asked_all Following other_watch [] growing_run v_17 p_17 refl chain_17 refl watch_fits bytes_17 growing_right
+    (record { blocks = record { header = only_header; txs = [] } ∷ []; taken = (inr ((λ got. none_fetched got.0 got.1), refl), tt); history = refl })
+    (λ p. at_one (WasHeard Following) growing_run v_17 p p_17 one_17
+    (heard_it Following v_17 chain_17 claimed_17 heard_17) (off_heard Following (Passed 5 ∷ []) refl))
+    (inr cleared) (λ block got disputed. none_fetched got.0 got.1)
 
 -- ---- the texts
 

@@ -11,8 +11,7 @@ use Rattle.cf_wires.specs.declared.event.Event.TheVariants.{Dialled, NotDialled,
 use Rattle.cf_wires.specs.Log.{Log}
 use Rattle.cf_peer.specs.Trail.{Trail, Part, Lost, Went, Failing, Shutting, called_part, with_item, heard_part, spelled, asks, part_of, trail}
 use Rattle.cf_peer.specs.Asking.{counted, fetched}
-use Rattle.cf_tables.specs.Known.{ExtractTable}
-use Rattle.cf_sync.specs.Fetching.{IsFetched, IsFetchedHash, IsSameFetched, IsNoPiece, IsWanted, HoldsFetched}
+use Rattle.cf_sync.specs.Fetching.{IsFetched, IsFetchedHash, IsSameFetched, IsNoPiece, IsWanted}
 use Rattle.cf_sync.proofs.Entries.{at_either}
 
 -- ---- what brings nothing to a peer's part
@@ -57,9 +56,3 @@ same_fetched_hash a b same hash got = (got.0, same_fetched a b same got.0 got.1,
 pub same_wanted : (a b : Log) → IsSameFetched a b → (m : Msg) → IsWanted a m → IsWanted b m
 same_wanted a b same (GetData entries) wanted = λ entry i got. wanted entry i (same_fetched_hash b a (same_fetched_back a b same) entry.hash.0 got)
 same_wanted a b same m wanted = wanted
-
-pub same_holds : (watch : List (List ℕ)) (a b : Log) (table : ExtractTable) → IsSameFetched a b → HoldsFetched watch a table → HoldsFetched watch b table
-same_holds watch a b table same holds = record {
-  sound = λ hash e is. let w = holds.sound hash e is in (w.0, same_fetched a b same w.0 w.1, w.2, w.3);
-  complete = λ hash is got. holds.complete hash is (same_fetched_hash b a (same_fetched_back a b same) hash got);
-}

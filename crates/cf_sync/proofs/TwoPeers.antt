@@ -23,7 +23,7 @@ use Rattle.cf_filter.specs.Filter.{basic_filter_of, filter_hash_of}
 use Rattle.cf_match.specs.declared.job.Job.{Job}
 use Rattle.cf_chain.specs.Serve.{headers_reply, range_end, cfheaders_reply, cfilters_reply}
 use Rattle.cf_headers.specs.Rules.{same, is_worked, is_timely}
-use Rattle.cf_headers.specs.Chain.{Chain, no_hash, height_limit, past_of, fits, back_to, accept, Accepted, Longer, IsValidChain, IsIn, NoHashClash}
+use Rattle.cf_headers.specs.Chain.{Chain, no_hash, height_limit, past_of, fits, back_to, accept, Accepted, Longer, IsValidChain, IsIn, NoHashClash, Hash}
 use Rattle.cf_headers.specs.Heights.{hash_at, common_of}
 use Rattle.cf_headers.proofs.Commons.{common_own}
 use Rattle.cf_headers.specs.Shown.{IsShown, Shows, IsShownSpelling}
@@ -35,12 +35,12 @@ use Rattle.cf_peer.specs.declared.mode.Mode.TheVariants.{Once}
 use Rattle.cf_peer.specs.Acts.{bytes_of}
 use Rattle.cf_peer.specs.Asking.{OpenRequest, is_spare, NothingOpen, ClaimsOpen, FiltersOpen, claims_asked, filters_asked, filter_of, claims, claims_after, claims_fault, filter_fault, fault_of, request_after, is_idle, given, given_by, HasHeader, IsFree, IsRange, request, is_committed, is_open, verdict, counted, lists, fetched, HasSaid, MayAsk, SameUse}
 use Rattle.cf_wires.specs.Log.{Log}
-use Rattle.cf_peer.specs.Trail.{Trail, Part, Called, Said, Asked, called_part, heard_part, spelled, asks, part_of, trail, connected, ready, own, is_heard_out, longer_of, ends_by, fault_in, first, Lost, Shutting, with_item}
+use Rattle.cf_peer.specs.Trail.{Trail, Part, Called, Said, Asked, called_part, heard_part, spelled, asks, part_of, trail, connected, ready, own, is_heard_out, longer_of, ends_by, fault_in, first, Lost, Shutting, with_item, is_heard_out_in}
 use Rattle.cf_sync.specs.Example.{only_tx, only_header, only_block, only_hash, chain_of_one, honest_peer, liar, genesis_hash, no_stop, our_version, its_version, false_version, question, its_headers, false_headers, its_block, log_1, log_2, log_3, log_4, log_5, log_6, log_7, log_8, log_9, log_10, log_11, log_12, log_13, log_14, log_15, log_16, log_17, log_18, run_of_two, cleared_run, only_filter, only_filter_hash, genesis_filter_header, ask_claims, its_claims, ask_filter, its_filter}
-use Rattle.cf_sync.specs.Fetching.{IsQuiet, IsBusy, AreBytes, IsFetched, IsConnected, Rightly}
+use Rattle.cf_sync.specs.Fetching.{IsQuiet, IsBusy, AreBytes, IsFetched, IsConnected, Rightly, counted_part, IsBest, IsDisputed, IsFetchedHash, IsScanOver, IsSettled, RightlyIn}
 use Rattle.cf_sync.proofs.Alone.{IsNoneFetching, none_filters}
 use Rattle.cf_sync.specs.Honesty.{Leaves, answers, AnswersAs, IsHonestOver, IsHonest, was_called, ShowsNoOther, filters_above}
-use Rattle.cf_sync.specs.Sync.{strings_of, IsOfBlocks, IsHashed}
+use Rattle.cf_sync.specs.Sync.{strings_of, IsOfBlocks, IsHashed, HasAskedIn}
 use Rattle.cf_dispute.proofs.Genesis.{first_header_is}
 use Rattle.cf_sync.proofs.Asks.{first_is}
 use Rattle.cf_sync.proofs.Ranges.{filters_in, hashes_in, claims_reply, filters_reply}
@@ -50,8 +50,11 @@ use Rattle.cf_sync.proofs.Chains.{same_self, cases_same, heads, Setting}
 use Rattle.cf_sync.proofs.Serving.{next_reply}
 use Rattle.cf_sync.proofs.Counted.{same_use, said_counts, counted_said, fetched_said}
 use Rattle.cf_sync.proofs.Settles.{committed_is}
-use Rattle.cf_sync.proofs.Computed.{genesis_is, name_is, txid_is, header_fits_type, worked, timely, previous_is_genesis, block_fits, committed, small_bytes, version_small, false_version_small, verack_small, headers_small, false_headers_small, claims_small, filter_small}
+use Rattle.cf_sync.proofs.Computed.{genesis_is, name_is, txid_is, header_fits_type, worked, timely, previous_is_genesis, block_fits, committed, small_bytes, version_small, false_version_small, verack_small, headers_small, false_headers_small, claims_small, filters_small}
 use Rattle.cf_sync.proofs.Written.{spelled_is, at_rest, sent_part, got_part, our_sendable, its_sendable, false_sendable, verack_sendable, question_sendable, headers_sendable, none_sendable, claims_sendable, filter_sendable, ask_claims_sendable, ask_filter_sendable}
+use Rattle.cf_peer.specs.declared.mode.Mode.{Mode}
+use Rattle.cf_scan.specs.declared.history.Entry.{Entry}
+use Rattle.cf_scan.specs.Watching.{IsWatch}
 
 -- ---- the parts, moment by moment
 
@@ -806,7 +809,7 @@ bytes_14 = (
 )
 
 pub cleared_bytes : AreBytes cleared_run
-cleared_bytes = (small_bytes (bytes_of its_filter) filter_small, (small_bytes (bytes_of its_claims) claims_small, bytes_14))
+cleared_bytes = (small_bytes (bytes_of its_filter) filters_small.0, (small_bytes (bytes_of its_claims) claims_small.0, bytes_14))
 
 -- the one block is all that a chain shares with this one
 abbrev pub SharesIt : Trail → Type 0
@@ -854,3 +857,69 @@ other_long = let e = ap (λ (c : Chain). length c) same_other.chain in omega (ar
 -- nobody has a number below the honest peer's
 pub nobody_below : (log : Log) (q : ℕ) → connected (trail log 0) ≡ false → q < 1 → IsConnected log q → ⊥
 nobody_below log q off below on = let none : q ≡ 0 = omega (arith, below) in false≢true (sym off ∙ subst (λ (k : ℕ). connected (trail log k) ≡ true) none on)
+
+-- the first peer's chain is the best, where nobody's is longer
+pub best_is_its : (log : Log) (t : Trail) (chain : Chain) → part_of log 1 ≡ at_rest t → connected t ≡ true
+    → own (counted t) ≡ chain → connected (trail log 0) ≡ false
+    → ((p : ℕ) → IsConnected log p → length (own (counted_part log p)) ≤ length chain) → IsBest log chain
+best_is_its log t chain here on is off longest = record {
+  longest = longest;
+  shown = inl (
+    1,
+    (
+      of_part (λ u. connected u ≡ true) (part_of log 1) t here on,
+      of_part (λ u. own (counted u) ≡ chain) (part_of log 1) t here is,
+      λ q below on. absurd (nobody_below log q off below on),
+    ),
+  );
+}
+
+-- a peer was heard out; its chain isn't longer than the one block, and it claims what it shares with it
+pub record IsHeard (mode : Mode) (t : Trail) : Type 0 where
+  pub short : length (own (counted t)) ≤ 1
+  pub heard_out : is_heard_out_in mode (counted t) ≡ true
+  pub claims_all : ClaimsIt t
+  pub shares : SharesIt t
+
+abbrev pub WasHeard : Mode → Trail → Type 0
+WasHeard mode t = connected t ≡ true → IsHeard mode t
+
+pub heard_it : (mode : Mode) (t : Trail) → own (counted t) ≡ only_header ∷ [] → claims (counted t) only_hash.0 ≡ Some only_claim
+    → is_heard_out_in mode (counted t) ≡ true → WasHeard mode t
+heard_it mode t chain claimed whole on = record {
+  short = one_long t chain;
+  heard_out = whole;
+  claims_all = claims_it t only_claim claimed chain;
+  shares = shares_it t chain;
+}
+
+pub other_heard : WasHeard Once u_7
+other_heard on = record { short = other_long; heard_out = same_other.hearing Once; claims_all = other_claims; shares = other_shares }
+
+pub off_heard : (mode : Mode) (t : Trail) → connected t ≡ false → WasHeard mode t
+off_heard mode t off on = absurd (false≢true (sym off ∙ on))
+
+-- so all was asked that may be, where the block is settled and the peers agree on what was fetched
+pub asked_all : (mode : Mode) (watch : List (List ℕ)) (entries : List Entry) (log : Log) (t : Trail) → part_of log 1 ≡ at_rest t
+    → connected t ≡ true → own (counted t) ≡ only_header ∷ [] → connected (trail log 0) ≡ false → IsWatch watch → AreBytes log
+    → RightlyIn mode log → IsScanOver watch log (only_header ∷ []) entries → ((p : ℕ) → WasHeard mode (trail log p))
+    → IsSettled watch log only_hash.0 → ((block : Hash) → IsFetchedHash log block → IsDisputed log block → ⊥)
+    → HasAskedIn mode watch 1 only_hash entries log
+asked_all mode watch entries log t here on chain off fits bytes right scanned heard settled agreed = record {
+  watchable = fits;
+  bytes = bytes;
+  rightly = right;
+  told = record {
+    chain = only_header ∷ [];
+    best = best_is_its log t (only_header ∷ []) here on chain off (λ p on. (heard p on).short);
+    height_is = refl;
+    hash_is = refl;
+    scanned = scanned;
+  };
+  asked_out = λ p on idle. record {
+    heard_out = (heard p on).heard_out;
+    claimed = (heard p on).claims_all;
+    settled = λ h one le above no_filter no_block. subst (λ (b : Hash). IsSettled watch log b) (sym ((heard p on).shares h one le)) settled;
+    tested = λ h one le above got disputed hash claims_it. absurd (agreed (hash_at (own (counted_part log p)) h) got disputed);
+  };
+}

@@ -1,5 +1,7 @@
 -- The messages of the runs of two peers: each can be written, and is read as it was.
 use Rattle.std.proofs.Common.{if◌then◌else◌, ◌≡◌, ℕ, List, [], ◌∷◌, ◌++◌, length, Option, Some, None, Bool, refl, ◌∙◌, ap, arith, length-append, eq-eqb}
+use Rattle.std.specs.Prelude.{◌<◌, ◌^◌, FitsSigned, codes, pos}
+use Rattle.std.specs.Int.{w32}
 use Rattle.std.proofs.Math.Facts.{sfits_lit}
 use Rattle.cf_bytes.specs.Compact.{compact}
 use Rattle.cf_bytes.specs.declared.peer.PeerNo.{PeerNo}
@@ -9,7 +11,7 @@ use Rattle.cf_frame.specs.Stream.{StreamRead, read_stream}
 use Rattle.cf_frame.proofs.Streams.{stream_of_spelling}
 use Rattle.cf_headers.specs.Chain.{no_hash}
 use Rattle.cf_msg.specs.declared.msg.Msg.{Msg}
-use Rattle.cf_msg.specs.declared.msg.Msg.TheVariants.{Verack, GetCfheaders, Cfheaders, Cfilter}
+use Rattle.cf_msg.specs.declared.msg.Msg.TheVariants.{Version, Verack, GetCfheaders, Cfheaders, Cfilter}
 use Rattle.cf_msg.specs.Message.{IsAddress, IsEntry, payload_of, frame_of}
 use Rattle.cf_msg.proofs.Table.{again, frame_fits}
 use Rattle.cf_msg.proofs.Sizes.{entries_size}
@@ -52,25 +54,27 @@ got_part p m log t good e =
 pub address_fits : IsAddress no_address
 address_fits = record { services = omega arith; ip = refl; port = omega arith }
 
-pub our_length : length (payload_of our_version) ≡ 92
+-- a version with this program's name
+abbrev named_version : ℕ → ℕ → Msg
+named_version services height =
+    Version (pos 70016) services (pos 0) no_address no_address 0 (codes "/cf:1/") (pos height) (Some 0)
+
+named_length : (services height : ℕ) → length (payload_of (named_version services height)) ≡ 92
 unfolding payload_of compact
-our_length = refl
+named_length services height = refl
+
+named_sendable : (services height : ℕ) → services < 2 ^ 64 → FitsSigned w32 (pos height)
+    → IsSendable (named_version services height)
+named_sendable services height low fits = record {
+  spelled = (sfits_lit tt, low, sfits_lit tt, address_fits, address_fits, omega arith, omega arith, fits, omega arith);
+  short = omega (arith, named_length services height);
+}
 
 pub our_sendable : IsSendable our_version
-our_sendable = record {
-  spelled = (sfits_lit tt, omega arith, sfits_lit tt, address_fits, address_fits, omega arith, omega arith, sfits_lit tt, omega arith);
-  short = omega (arith, our_length);
-}
-
-pub its_length : length (payload_of its_version) ≡ 92
-unfolding payload_of compact
-its_length = refl
+our_sendable = named_sendable 0 0 (omega arith) (sfits_lit tt)
 
 pub its_sendable : IsSendable its_version
-its_sendable = record {
-  spelled = (sfits_lit tt, omega arith, sfits_lit tt, address_fits, address_fits, omega arith, omega arith, sfits_lit tt, omega arith);
-  short = omega (arith, its_length);
-}
+its_sendable = named_sendable 65 1 (omega arith) (sfits_lit tt)
 
 pub false_length : length (payload_of false_version) ≡ 86
 unfolding payload_of compact

@@ -23,11 +23,8 @@ use Rattle.cf_peer.specs.declared.peer.Cause.{Cause}
 use Rattle.cf_peer.specs.declared.peer.Cause.TheVariants.{Omits}
 use Rattle.cf_wires.specs.Log.{Log}
 use Rattle.cf_peer.specs.Trail.{Trail, trail, spelled, connected, own, is_heard_out_in}
-use Rattle.cf_scan.specs.declared.extracts.TxExtract.{TxExtract}
 use Rattle.cf_scan.specs.declared.history.Entry.{Entry}
-use Rattle.cf_scan.specs.Extract.{extract_of}
 use Rattle.cf_scan.specs.Scan.{scan_of}
-use Rattle.cf_tables.specs.Known.{ExtractTable}
 use Rattle.cf_filter.specs.Lacking.{output_items_of, lacks}
 use Rattle.cf_peer.specs.Asking.{OpenRequest, NothingOpen, HeadersOpen, ClaimsOpen, FiltersOpen, BlockOpen, PingOpen, request, is_open, counted, claims, hash_claimed, HasHeader, fetched, given, blocks_from, Deserves, MayAskIn}
 
@@ -407,10 +404,3 @@ pub record IsScanOver (watch : List (List ℕ)) (log : Log) (chain : Chain) (ent
   pub blocks : List Block
   pub taken : StandFor log (reverse chain) blocks
   pub history : entries ≡ scan_of blocks watch
-
--- ---- what is kept of fetched blocks
-
--- the extract of each block that was fetched, and nothing else
-pub record HoldsFetched (watch : List (List ℕ)) (log : Log) (table : ExtractTable) : Type 0 where
-  pub sound : (hash : Hash) (e : List TxExtract) → table hash ≡ Some e → (b : Block) × IsFetched log b × (block_hash_of b.header ≡ hash) × (e ≡ extract_of b watch)
-  pub complete : (hash : Hash) → table hash ≡ None → IsFetchedHash log hash → ⊥

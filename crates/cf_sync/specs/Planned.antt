@@ -1,14 +1,12 @@
 -- statement: the log as a client knew it that wasn't told yet of some failed sends.
-use Rattle.std.specs.Prelude.{◌≡◌, ◌⊎◌, ℕ, ◌==◌, Bool, true, false, not, ◌&&◌, ◌||◌, if◌then◌else◌, [], ◌∷◌, ◌++◌, Some}
-use Rattle.cf_msg.specs.declared.msg.Msg.{Msg}
-use Rattle.cf_wires.specs.declared.event.Event.TheVariants.{Sent, SendFailed, Closed, Took}
+use Rattle.std.specs.Prelude.{◌≡◌, ◌⊎◌, ℕ, ◌==◌, Bool, true, false, not, ◌&&◌, ◌||◌, if◌then◌else◌, [], ◌∷◌, ◌++◌}
+use Rattle.cf_wires.specs.declared.event.Event.TheVariants.{SendFailed, Closed, Took}
 use Rattle.cf_wires.specs.Log.{Log, tally_of}
-use Rattle.cf_peer.specs.Trail.{Trail, Part, Called, Said, Refused, Asked, Passed, Lost, part_of, trail, spelled, connected, failed}
+use Rattle.cf_peer.specs.Trail.{Trail, Part, Called, Said, Refused, Passed, part_of, trail, connected, failed}
 use Rattle.cf_peer.specs.Asking.{counted, fetched, given}
 use Rattle.cf_match.specs.declared.job.Job.{Job}
 use Rattle.cf_headers.specs.Chain.{Hash}
-use Rattle.cf_sync.specs.Fetching.{Rule, MaySendIn, IsGiven, IsTest, IsTested, is_after_tick}
-use Rattle.cf_sync.specs.Due.{IsCalledFor}
+use Rattle.cf_sync.specs.Fetching.{IsGiven, IsTest, IsTested, is_after_tick}
 
 -- a send to this peer has failed since the last delivery, and the peer wasn't closed for it yet, so the client isn't told
 abbrev pub is_untold : Log → ℕ → Bool
@@ -61,9 +59,3 @@ pub record IsPlanned (planned log : Log) : Type 0 where
   pub gave : IsSameGiven planned log
   pub ticked : is_after_tick planned ≡ is_after_tick log
   pub aims : (q : ℕ) → is_untold log q ≡ false → connected (trail log q) ≡ true → (block : Hash) → IsSameTest planned log q block
-
--- what was sent was wanted and called for by a client that knew of no failure that it wasn't told of yet
-abbrev pub ArePlanned : Rule → Log → Type 0
-ArePlanned rule [] = Unit {0}
-ArePlanned rule (Sent p bytes ∷ log) = ((m : Msg) × (spelled bytes ≡ Some m) × ((planned : Log) × (IsPlanned planned log × (MaySendIn rule.mode planned p.0 m × IsCalledFor rule planned p.0 m)))) × ArePlanned rule log
-ArePlanned rule (_ ∷ log) = ArePlanned rule log

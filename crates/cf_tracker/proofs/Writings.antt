@@ -21,7 +21,8 @@ use Rattle.cf_tables.specs.Tables.{IsSameTable}
 use Rattle.cf_tables.specs.Known.{ExtractTable}
 use Rattle.cf_tracker.specs.Writing.{IsUpTo, stands_after}
 use Rattle.cf_tracker.specs.Written.{IsWrittenAs, IsWrittenHere, IsWrittenTo, IsWrittenTop, IsWrittenWhole, written_as, written_at}
-use Rattle.cf_seek.proofs.Along.{common_low, hash_of_next}
+use Rattle.cf_seek.proofs.Along.{hash_of_next}
+use Rattle.cf_headers.proofs.Commons.{common_low}
 use Rattle.cf_seek.proofs.Shared.{hash_shared}
 use Rattle.cf_seek.proofs.SoughtStays.{same_below, same_true}
 
@@ -255,7 +256,7 @@ pub shared_to : (table : ExtractTable) (chain : Option Chain) (own : Chain) (wri
 shared_to table None own written height low le shared up = written_none table own written low (let z = up.none refl in omega (arith, le, z))
 shared_to table (Some other) own written height low le shared up =
     let s = shared other refl in
-    let c = common_low own other in
+    let c = (common_low own other).0 in
     written_shared table own other written height low le s (omega (arith, s, c)) (up.some other refl)
 
 pub up_to_turned : (chains : Chains) (table : ExtractTable) (written : List Written) (p r : PeerNo) (height : ℕ) → r ≡ p

@@ -9,7 +9,7 @@ use Rattle.cf_client.specs.Settled.{AreSettled, AreRight}
 use Rattle.cf_client.proofs.Settled.{settled_first}
 use Rattle.cf_client.proofs.Standing.{stand_first}
 use Rattle.cf_sync.specs.Fetching.{once}
-use Rattle.cf_sync.proofs.KeptAims.{trials_start}
+use Rattle.cf_holds.proofs.KeptAims.{trials_start}
 use Rattle.cf_client.proofs.Rights.{right_first}
 use Rattle.cf_client.proofs.client.Client.new.Goals as goal
 

@@ -9,18 +9,18 @@ use Rattle.cf_tables.specs.Judged.{verdicts_in}
 use Rattle.cf_seek.specs.OpensAll.{opens_in}
 use Rattle.cf_seek.specs.Tracking.{IsMarked, AreMarked}
 use Rattle.cf_tables.specs.Tests.{told_in}
-use Rattle.cf_seek.proofs.Along.{common_low}
+use Rattle.cf_headers.proofs.Commons.{common_low}
 use Rattle.cf_seek.proofs.Opening.{opened, up_marked}
 use Rattle.cf_tracker.proofs.Tried.{tried_to, up_tried}
 use Rattle.cf_tracker.proofs.tracker.Tracker.seek.Goals as goal
 
 within : (common : ℕ) (own other : Chain) → common ≡ common_of own other → common ≤ length own
-within common own other is = (let low = common_low own other in omega (arith, is, low))
+within common own other is = (let low = (common_low own other).0 in omega (arith, is, low))
 
 pub next_sought-want-requires-clause-within : goal.next_sought-want-requires-clause-within
 next_sought-want-requires-clause-within g c =
     let own = own_of (g.H.HeaderStore.chain c.args.self.now.store) c.args.p in
-    let low : c.common-common.result ≤ length own = omega (arith, c.common-common.ensures, common_low own (own_of (g.H.HeaderStore.chain c.args.self.now.store) c.args.other)) in
+    let low : c.common-common.result ≤ length own = omega (arith, c.common-common.ensures, (common_low own (own_of (g.H.HeaderStore.chain c.args.self.now.store) c.args.other)).0) in
     low
 
 pub next_sought-want-requires-clause-marks : goal.next_sought-want-requires-clause-marks
@@ -56,7 +56,7 @@ invariant_of-self-2 g c =
 pub wish_for-requires-clause-within : goal.wish_for-requires-clause-within
 wish_for-requires-clause-within g c =
     let own = own_of (g.H.HeaderStore.chain c.args.self.now.store) c.args.p in
-    let low : c.common-common.result ≤ length own = omega (arith, c.common-common.ensures, common_low own (own_of (g.H.HeaderStore.chain c.args.self.now.store) c.args.other)) in
+    let low : c.common-common.result ≤ length own = omega (arith, c.common-common.ensures, (common_low own (own_of (g.H.HeaderStore.chain c.args.self.now.store) c.args.other)).0) in
     low
 
 pub returns-clause-wish : goal.returns-clause-wish

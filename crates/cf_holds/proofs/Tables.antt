@@ -13,7 +13,8 @@ use Rattle.cf_scan.specs.Extracts.{after_placed, history_of}
 use Rattle.cf_scan.proofs.HistoryLaws.{extract_block}
 use Rattle.cf_tables.specs.Tables.{placed_one, placed_by}
 use Rattle.cf_tables.specs.Known.{ExtractTable}
-use Rattle.cf_sync.specs.Fetching.{StandFor, IsScanOver, HoldsFetched}
+use Rattle.cf_sync.specs.Fetching.{StandFor, IsScanOver}
+use Rattle.cf_holds.specs.Known.{HoldsFetched}
 
 -- blocks that stand for headers, and whose scan the extracts give
 record Scans (watch : List (List ℕ)) (log : Log) (headers : List Header) (height : ℕ) (placed : List Placed) : Type 0 where

@@ -17,9 +17,9 @@ use Rattle.cf_seek.specs.Opening.{IsSameElse, Closes, OpensFilters, OpensBlock}
 use Rattle.cf_seek.specs.Seeking.{IsToAsk, IsToGet}
 use Rattle.cf_tables.specs.Known.{ExtractTable}
 use Rattle.cf_tables.specs.Wanting.{IsAbove}
-use Rattle.cf_sync.specs.Fetching.{filters_open, blocks_open, IsFilterOpen, IsBlockOpen, IsAlone, IsSettled, HoldsFetched, blocks_in}
-use Rattle.cf_sync.specs.Known.{HoldsClaims, HoldsGiven, HoldsOpens, OpensAt}
-use Rattle.cf_sync.proofs.Kept.{done_else, settled_by}
+use Rattle.cf_sync.specs.Fetching.{filters_open, blocks_open, IsFilterOpen, IsBlockOpen, IsAlone, IsSettled, blocks_in}
+use Rattle.cf_holds.specs.Known.{HoldsFetched, HoldsClaims, HoldsGiven, HoldsOpens, OpensAt}
+use Rattle.cf_holds.proofs.Kept.{done_else, settled_by}
 
 pub free_filter : (log : Log) (opens : Opens) (block : Hash) → HoldsOpens log opens → IsFilterFree opens block → IsFilterOpen log block → ⊥
 free_filter log opens block h free stands = both_ways (opens.filters stands.0 block) (free stands.0) ((h stands.0).all_filters block stands.1.0 stands.1.1)

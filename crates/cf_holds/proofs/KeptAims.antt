@@ -1,5 +1,5 @@
 -- What is kept of tests goes on with the log, whatever comes.
-use Rattle.std.proofs.Common.{◌≡◌, ◌≢◌, ◌⊎◌, inl, inr, ℕ, suc, ◌-◌, ◌≤◌, List, [], ◌∷◌, ◌++◌, map, length, take, reverse, Option, Some, None, Ok, Err, Bool, true, false, ◌==◌, if◌then◌else◌, refl, sym, ◌∙◌, ap, subst, arith}
+use Rattle.std.proofs.Common.{◌≡◌, ◌≢◌, ◌⊎◌, inl, inr, ℕ, suc, ◌-◌, ◌≤◌, List, [], ◌∷◌, ◌++◌, map, length, take, reverse, Option, Some, None, Bool, true, false, ◌==◌, if◌then◌else◌, refl, sym, ◌∙◌, ap, subst, arith}
 use Rattle.std.specs.Prelude.{◌&&◌, IsSome, unwrap_or}
 use Rattle.std.proofs.lemmas.Grind.{common_steps}
 use Rattle.std.proofs.lemmas.Bool.{both_ways, cases_Bool, cases_eq, eq-eqb, eqb-true, false≢true, ne_eqb}
@@ -7,8 +7,6 @@ use Rattle.std.proofs.lemmas.List.{append_cancel_right, length-map}
 use Rattle.cf_bytes.specs.declared.hash.Hash32.{Hash32}
 use Rattle.cf_bytes.specs.declared.peer.PeerNo.{PeerNo}
 use Rattle.cf_block.specs.declared.tx.Block.{Block}
-use Rattle.cf_frame.specs.declared.frame.Frame.{Frame}
-use Rattle.cf_frame.specs.declared.frame.FrameFault.{FrameFault}
 use Rattle.cf_frame.specs.Stream.{StreamRead, read_stream}
 use Rattle.cf_block.specs.Header.{block_hash_of}
 use Rattle.cf_headers.specs.Chain.{Hash, Chain, IsIn, back_to}
@@ -16,13 +14,12 @@ use Rattle.cf_match.specs.declared.job.Job.{Job}
 use Rattle.cf_msg.specs.declared.msg.Msg.{Msg}
 use Rattle.cf_msg.specs.declared.msg.Inventory.{Inventory}
 use Rattle.cf_msg.specs.declared.msg.Msg.TheVariants.{GetHeaders, Headers, GetData, Block as BlockMessage, GetCfheaders, Cfheaders, GetCfilters, Cfilter, Ping, Pong}
-use Rattle.cf_msg.specs.Reading.{message_of}
 use Rattle.cf_wires.specs.declared.event.Delivery.TheVariants.{Got, Gone, Tick, Ended}
 use Rattle.cf_wires.specs.declared.event.Event.{Event}
 use Rattle.cf_wires.specs.declared.event.Event.TheVariants.{Dialled, NotDialled, Sent, SendFailed, Closed, Took}
 use Rattle.cf_wires.specs.Log.{Log}
-use Rattle.cf_peer.specs.Trail.{Trail, Part, Said, Lost, Went, Failing, Shutting, called_part, with_item, item_of_read, item_of, hears, hears_fault, part_after, heard_part, part_of, trail, went_on, asks, spelled, connected, own}
-use Rattle.cf_peer.specs.Asking.{OpenRequest, NothingOpen, HeadersOpen, ClaimsOpen, FiltersOpen, BlockOpen, PingOpen, block_asked, blocks_from, claims_asked, filter_of, filters_asked, is_answer_of, is_committed, is_wanted, request, request_after, counts, counted, fetched, fetched_by, given, given_by}
+use Rattle.cf_peer.specs.Trail.{Trail, Part, Said, Lost, Went, Failing, Shutting, called_part, with_item, part_after, heard_part, part_of, trail, went_on, asks, spelled, connected, own}
+use Rattle.cf_peer.specs.Asking.{OpenRequest, NothingOpen, HeadersOpen, ClaimsOpen, FiltersOpen, BlockOpen, PingOpen, block_asked, blocks_from, claims_asked, filter_of, filters_asked, is_answer_of, is_committed, is_wanted, request, request_after, counted, fetched, fetched_by, given, given_by}
 use Rattle.cf_filter.specs.Lacking.{output_items_of}
 use Rattle.cf_headers.specs.Rules.{same}
 use Rattle.cf_tables.specs.Outputs.{Paid, lacks_kept}
@@ -30,14 +27,14 @@ use Rattle.cf_tables.specs.Tests.{IsSameTold}
 use Rattle.cf_tables.specs.Known.{TestResults}
 use Rattle.cf_tables.specs.Trials.{Trials, TrialsGo, tested_if, with_paid}
 use Rattle.cf_sync.specs.Fetching.{AreFiltersWanted, IsConnected, IsFetchedHash, IsNoPiece, IsTest, IsTested, IsTestedWith, IsTestOf, IsSameFetched, blocks_in, counted_part, filters_open, test_after}
-use Rattle.cf_sync.specs.Kept.{AimsAt, AreClean, HoldsOutputs, HoldsTrials, IsNoSend}
-use Rattle.cf_sync.specs.Known.{HoldsTests}
-use Rattle.cf_seek.proofs.Stops.{back_ends}
+use Rattle.cf_holds.specs.Kept.{AimsAt, AreClean, HoldsOutputs, HoldsTrials, IsNoSend}
+use Rattle.cf_holds.specs.Known.{HoldsTests}
+use Rattle.cf_headers.proofs.Found.{back_ends}
 use Rattle.cf_sync.proofs.Deaf.{heard_deaf, heard_on}
 use Rattle.cf_sync.proofs.Entries.{at_either}
 use Rattle.cf_sync.proofs.FreshTests.{tip_only}
-use Rattle.cf_sync.proofs.Idle.{no_block, no_filter, nothing_after}
-use Rattle.cf_sync.proofs.KeptTests.{TestsNone, clean_on, clean_stays, no_piece_tests, one_tested, outputs_grow, outputs_stay, tests_stay}
+use Rattle.cf_sync.proofs.Idle.{no_block, no_filter, nothing_after, through_piece}
+use Rattle.cf_holds.proofs.KeptTests.{TestsNone, clean_on, clean_stays, no_piece_tests, one_tested, outputs_grow, outputs_stay, tests_stay}
 use Rattle.cf_sync.proofs.Once.{answered}
 use Rattle.cf_sync.proofs.SameFetched.{no_piece_brings, same_fetched, same_fetched_back, same_fetched_hash}
 use Rattle.cf_sync.specs.Planned.{Alike, IsSameTest}
@@ -197,30 +194,8 @@ said_on m t c (inr s) = inr (
   },
 )
 
-said_so : (m : Msg) (t u : Trail) → HasAnswered t (counted u) → HasAnswered t (counted (Said m ∷ u))
-said_so m t u a = by (counts m u) where
-  by : (x : Bool) → HasAnswered t (if x then Said m ∷ counted u else counted u)
-  by true = said_on m t (counted u) a
-  by false = a
-
-frame_so : (f : Frame) (t u : Trail) → HasAnswered t (counted u) → HasAnswered t (counted (item_of f ∷ u))
-frame_so f t u a = elim (message_of f) as (λ r. HasAnswered t (counted (item_of_read r ∷ u))) [
-  | Ok m ↦ said_so m t u a
-  | Err e ↦ a
-]
-
-hears_so : (fs : List Frame) (t u : Trail) → HasAnswered t (counted u) → HasAnswered t (counted (hears fs u))
-hears_so [] t u a = a
-hears_so (f ∷ fs) t u a = hears_so fs t (item_of f ∷ u) (frame_so f t u a)
-
 rest_so : (r : StreamRead) (t : Trail) → HasAnswered t (counted (part_after r t).trail)
-rest_so r t = by_fault r.fault where
-  heard_so : HasAnswered t (counted (hears r.frames t))
-  heard_so = hears_so r.frames t t (inl (refl, refl, inl refl))
-
-  by_fault : (o : Option FrameFault) → HasAnswered t (counted (hears_fault o (hears r.frames t)))
-  by_fault None = heard_so
-  by_fault (Some fault) = heard_so
+rest_so r t = through_piece (HasAnswered t) (λ m c. said_on m t c) r t (inl (refl, refl, inl refl))
 
 pub got_here : (p : PeerNo) (piece : List ℕ) (part : Part) → went_on (Took (Got p piece)) p.0 part ≡ heard_part piece part
 got_here p piece part = grind (arith, common_steps)
@@ -288,25 +263,15 @@ ends_at (Took (Tick s)) log q unsent = inl refl
 ends_at (Took Ended) log q unsent = inl refl
 
 -- what isn't sent tells of no question
-test_on : (e : Event) (log : Log) (q : ℕ) (block : Hash) → IsNoSend e → IsTest log q block → IsTest (e ∷ log) q block
-test_on (Sent p bytes) log q block unsent t = absurd unsent
-test_on (Dialled p name) log q block unsent t = t
-test_on (NotDialled p name) log q block unsent t = t
-test_on (SendFailed p) log q block unsent t = t
-test_on (Closed p) log q block unsent t = t
-test_on (Took d) log q block unsent t = t
-
-test_back : (e : Event) (log : Log) (q : ℕ) (block : Hash) → IsNoSend e → IsTest (e ∷ log) q block → IsTest log q block
-test_back (Sent p bytes) log q block unsent t = absurd unsent
-test_back (Dialled p name) log q block unsent t = t
-test_back (NotDialled p name) log q block unsent t = t
-test_back (SendFailed p) log q block unsent t = t
-test_back (Closed p) log q block unsent t = t
-test_back (Took d) log q block unsent t = t
+test_like : (e : Event) (log : Log) (q : ℕ) (block : Hash) → IsNoSend e
+    → (IsTest log q block → IsTest (e ∷ log) q block) × (IsTest (e ∷ log) q block → IsTest log q block)
+test_like (Sent p bytes) log q block unsent = absurd unsent
+test_like e log q block unsent = (λ t. t, λ t. t)
 
 aims_stay : (e : Event) (log : Log) (q : ℕ) (aim : Bool) → IsNoSend e → (IsConnected log q → AimsAt log q aim) → IsConnected (e ∷ log) q → AimsAt (e ∷ log) q aim
 aims_stay e log q aim unsent a on = elim (was_on e log q unsent on) [
-  | inl before ↦ aims_go log (e ∷ log) q aim (ends_at e log q unsent) (λ block t. test_on e log q block unsent t) (λ block t. test_back e log q block unsent t) (a before)
+  | inl before ↦ aims_go log (e ∷ log) q aim (ends_at e log q unsent)
+      (λ block. (test_like e log q block unsent).0) (λ block. (test_like e log q block unsent).1) (a before)
   | inr none ↦ aims_none (e ∷ log) q aim none
 ]
 

@@ -1,7 +1,7 @@
-use Rattle.cf_sync.proofs.KeptAims.{trials_piece, trials_stay}
-use Rattle.cf_sync.proofs.KeptGiven.{verdicts_go}
-use Rattle.cf_sync.proofs.KeptTests.{holds_all}
-use Rattle.cf_sync.proofs.laws.what_is_kept_of_tests_goes_on.Goals as goal
+use Rattle.cf_holds.proofs.KeptAims.{trials_piece, trials_stay}
+use Rattle.cf_holds.proofs.KeptGiven.{verdicts_go}
+use Rattle.cf_holds.proofs.KeptTests.{holds_all}
+use Rattle.cf_holds.proofs.laws.what_is_kept_of_tests_goes_on.Goals as goal
 
 pub returns-clause-stay : goal.returns-clause-stay
 returns-clause-stay c = trials_stay

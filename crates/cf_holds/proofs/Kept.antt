@@ -16,10 +16,10 @@ use Rattle.cf_wires.specs.Log.{Log}
 use Rattle.cf_peer.specs.Trail.{Trail, trail, connected}
 use Rattle.cf_scan.specs.declared.extracts.TxExtract.{TxExtract}
 use Rattle.cf_tables.specs.Known.{ExtractTable}
-use Rattle.cf_sync.specs.Fetching.{counted_part, IsConnected, IsAgreed, IsDisputed, IsJudged, IsSettled, IsFilterWanted, IsBlockWanted, HoldsFetched}
+use Rattle.cf_sync.specs.Fetching.{counted_part, IsConnected, IsAgreed, IsDisputed, IsJudged, IsSettled, IsFilterWanted, IsBlockWanted}
+use Rattle.cf_holds.specs.Known.{HoldsFetched, HoldsClaims, HoldsGiven}
 use Rattle.cf_sync.specs.Fetching as log
 use Rattle.cf_tables.specs.Wanting.{IsDone, IsUnjudged, IsToFetch}
-use Rattle.cf_sync.specs.Known.{HoldsClaims, HoldsGiven}
 
 -- who claims something by the tables is connected, and claims it by the log; and the other way round
 there_by : (b : Bool) (t : Trail) (block : Hash) (claim : Claim) → (if b then claims (counted t) else no_claims) block ≡ Some claim → (b ≡ true) × (claims (counted t) block ≡ Some claim)

@@ -17,10 +17,18 @@ use Rattle.cf_scan.specs.declared.extracts.TxExtract.{TxExtract}
 use Rattle.cf_scan.specs.Extract.{extract_of}
 use Rattle.cf_tables.specs.Tables.{with_blocks, IsSameTable}
 use Rattle.cf_tables.specs.Known.{ExtractTable}
-use Rattle.cf_sync.specs.Fetching.{counted_part, IsFetched, IsNoPiece, HoldsFetched}
+use Rattle.cf_sync.specs.Fetching.{counted_part, IsFetched, IsNoPiece, IsSameFetched}
+use Rattle.cf_holds.specs.Known.{HoldsFetched}
 use Rattle.cf_sync.proofs.Listed.{in_left, in_right, in_either}
 use Rattle.cf_sync.proofs.Chains.{cases_same}
-use Rattle.cf_sync.proofs.SameFetched.{no_piece_brings, piece_of_another, same_fetched_back, same_holds}
+use Rattle.cf_sync.proofs.SameFetched.{no_piece_brings, piece_of_another, same_fetched, same_fetched_back, same_fetched_hash}
+
+-- the same was fetched
+pub same_holds : (watch : List (List ℕ)) (a b : Log) (table : ExtractTable) → IsSameFetched a b → HoldsFetched watch a table → HoldsFetched watch b table
+same_holds watch a b table same holds = record {
+  sound = λ hash e is. let w = holds.sound hash e is in (w.0, same_fetched a b same w.0 w.1, w.2, w.3);
+  complete = λ hash is got. holds.complete hash is (same_fetched_hash b a (same_fetched_back a b same) hash got);
+}
 
 -- an extract with its block, one of these
 abbrev IsOfOne : List (List ℕ) → List Block → Hash → List TxExtract → Type 0

@@ -1,6 +1,8 @@
--- statement: what is known by a log: claims, verdicts, open requests and tests.
+-- statement: what is known by a log: extracts of fetched blocks, claims, verdicts, open requests and tests.
 use Rattle.std.specs.Prelude.{◌≡◌, ℕ, if◌then◌else◌, List, Some, None, true, false}
 use Rattle.cf_bytes.specs.declared.hash.Hash32.{Hash32}
+use Rattle.cf_block.specs.declared.tx.Block.{Block}
+use Rattle.cf_block.specs.Header.{block_hash_of}
 use Rattle.cf_dispute.specs.Claims.{Tables, no_claims}
 use Rattle.cf_dispute.specs.Claims as dispute
 use Rattle.cf_filter.specs.Filter.{filter_hash_of}
@@ -8,12 +10,19 @@ use Rattle.cf_headers.specs.Chain.{Hash, IsIn}
 use Rattle.cf_match.specs.declared.job.Job.{Job}
 use Rattle.cf_match.specs.declared.job.Verdict.{Verdict}
 use Rattle.cf_match.specs.Verdicts.{Verdicts, verdict_of}
+use Rattle.cf_scan.specs.declared.extracts.TxExtract.{TxExtract}
+use Rattle.cf_scan.specs.Extract.{extract_of}
 use Rattle.cf_peer.specs.Asking.{claims, counted, request}
 use Rattle.cf_wires.specs.Log.{Log}
 use Rattle.cf_peer.specs.Trail.{Trail, trail, connected}
-use Rattle.cf_sync.specs.Fetching.{IsGiven, IsGivenWith, IsOmission, IsTestedWith, blocks_open, filters_open}
+use Rattle.cf_sync.specs.Fetching.{IsFetched, IsFetchedHash, IsGiven, IsGivenWith, IsOmission, IsTestedWith, blocks_open, filters_open}
 use Rattle.cf_seek.specs.Opens.{Opens}
-use Rattle.cf_tables.specs.Known.{TestResults}
+use Rattle.cf_tables.specs.Known.{ExtractTable, TestResults}
+
+-- the extract of each block that was fetched, and nothing else
+pub record HoldsFetched (watch : List (List ℕ)) (log : Log) (table : ExtractTable) : Type 0 where
+  pub sound : (hash : Hash) (e : List TxExtract) → table hash ≡ Some e → (b : Block) × IsFetched log b × (block_hash_of b.header ≡ hash) × (e ≡ extract_of b watch)
+  pub complete : (hash : Hash) → table hash ≡ None → IsFetchedHash log hash → ⊥
 
 -- what is kept of a peer's claims: what counts of them, while it is connected
 abbrev pub claims_kept : Trail → dispute.Table

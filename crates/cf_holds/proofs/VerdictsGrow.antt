@@ -1,5 +1,5 @@
 -- Verdicts that hold what was given, with those on more filters.
-use Rattle.std.proofs.Common.{◌≡◌, ◌⊎◌, inl, inr, ℕ, List, [], ◌∷◌, ◌++◌, Option, Some, None, Bool, true, false, if◌then◌else◌, refl, sym, ◌∙◌, ap}
+use Rattle.std.proofs.Common.{◌≡◌, ◌⊎◌, inl, inr, ℕ, List, [], ◌∷◌, Option, Some, None, Bool, true, false, if◌then◌else◌, refl, sym, ◌∙◌, ap}
 use Rattle.std.proofs.lemmas.Bool.{and_parts, and_from, both_ways}
 use Rattle.cf_filter.specs.Filter.{filter_hash_of}
 use Rattle.cf_headers.specs.Chain.{Hash, IsIn}
@@ -7,21 +7,11 @@ use Rattle.cf_headers.specs.Rules.{same}
 use Rattle.cf_match.specs.declared.job.Job.{Job}
 use Rattle.cf_match.specs.declared.job.Verdict.{Verdict}
 use Rattle.cf_match.specs.Verdicts.{Verdicts, verdict_of, kept_or, is_of, with_verdict, with_verdicts, AreSameVerdicts}
-use Rattle.cf_msg.specs.declared.msg.Msg.{Msg}
-use Rattle.cf_peer.specs.Asking.{request, fault_of, verdict, counted, given, given_by}
 use Rattle.cf_wires.specs.Log.{Log}
-use Rattle.cf_peer.specs.Trail.{Trail, Said, connected}
 use Rattle.cf_sync.specs.Fetching.{IsGiven}
-use Rattle.cf_sync.specs.Known.{HoldsGiven}
+use Rattle.cf_holds.specs.Known.{HoldsGiven}
 use Rattle.cf_sync.specs.Planned.{IsSameGiven}
 use Rattle.cf_dispute.proofs.PutIn.{same_true, same_from}
-use Rattle.cf_sync.proofs.Counted.{same_use, said_counts, first_none}
-
--- what one message gives
-pub said_gives : (m : Msg) (t : Trail) → connected t ≡ true → verdict (Said m ∷ t) ≡ None → given (counted (Said m ∷ t)) ≡ given_by m (request t) ++ given (counted t)
-said_gives m t on clean =
-    ap given (said_counts m t on clean)
-    ∙ ap (λ r. given_by m r ++ given (counted t)) (same_use t on (first_none (verdict t) (fault_of m t) clean).0).open_one
 
 -- a verdict on one of these filters, or one that stood before
 abbrev IsOfOne : List (List ℕ) → List Job → Hash → Hash → Verdict → Type 0

@@ -15,12 +15,12 @@ use Rattle.cf_peer.specs.Asking.{counted, given, request}
 use Rattle.cf_peer.specs.Trail.{Part, connected, part_of, trail}
 use Rattle.cf_tables.specs.Trials.{Trials, judged_if}
 use Rattle.cf_sync.specs.Fetching.{counted_part, filters_open, IsConnected, IsGiven, IsTest}
-use Rattle.cf_sync.specs.Kept.{HoldsTrials}
-use Rattle.cf_sync.specs.Known.{HoldsGiven}
+use Rattle.cf_holds.specs.Kept.{HoldsTrials}
+use Rattle.cf_holds.specs.Known.{HoldsGiven}
 use Rattle.cf_sync.proofs.Answered.{given_stays}
 use Rattle.cf_sync.proofs.Deaf.{heard_deaf}
-use Rattle.cf_sync.proofs.KeptAims.{HasAnswered, got_here, named, piece_brings}
-use Rattle.cf_sync.proofs.VerdictsGrow.{grown_given, same_given}
+use Rattle.cf_holds.proofs.KeptAims.{HasAnswered, got_here, named, piece_brings}
+use Rattle.cf_holds.proofs.VerdictsGrow.{grown_given, same_given}
 
 module _ (p : PeerNo) (piece : List ℕ) (log : Log) (jobs : List Job)
     (gives : given (counted_part (Took (Got p piece) ∷ log) p.0) ≡ jobs ++ given (counted_part log p.0)) where

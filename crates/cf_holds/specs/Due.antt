@@ -1,5 +1,5 @@
--- statement: what is to be asked next, by all that a log holds.
-use Rattle.std.specs.Prelude.{◌≡◌, ℕ, true, [], ◌∷◌}
+-- statement: what is to be asked next, by all that a log holds; and what was sent so.
+use Rattle.std.specs.Prelude.{◌≡◌, ℕ, true, [], ◌∷◌, Some}
 use Rattle.cf_dispute.specs.Claims.{Tables}
 use Rattle.cf_headers.specs.Chain.{Chain}
 use Rattle.cf_headers.specs.Heights.{common_of}
@@ -7,10 +7,12 @@ use Rattle.cf_match.specs.Verdicts.{Verdicts}
 use Rattle.cf_msg.specs.declared.msg.Msg.{Msg}
 use Rattle.cf_msg.specs.declared.msg.Msg.TheVariants.{GetData, GetCfheaders, GetCfilters}
 use Rattle.cf_peer.specs.Asking.{block_entry}
+use Rattle.cf_wires.specs.declared.event.Event.TheVariants.{Sent}
 use Rattle.cf_wires.specs.Log.{Log}
-use Rattle.cf_peer.specs.Trail.{trail, own, is_heard_out_in}
-use Rattle.cf_sync.specs.Fetching.{Rule, IsBest, IsNeeded, HoldsFetched}
-use Rattle.cf_sync.specs.Known.{HoldsClaims, HoldsGiven, HoldsOpens, HoldsTests}
+use Rattle.cf_peer.specs.Trail.{trail, own, spelled, is_heard_out_in}
+use Rattle.cf_sync.specs.Fetching.{Rule, IsBest, IsNeeded, MaySendIn}
+use Rattle.cf_sync.specs.Planned.{IsPlanned}
+use Rattle.cf_holds.specs.Known.{HoldsFetched, HoldsClaims, HoldsGiven, HoldsOpens, HoldsTests}
 use Rattle.cf_seek.specs.declared.spans.Wish.{Wish}
 use Rattle.cf_seek.specs.declared.spans.Wish.TheVariants.{Claims, Filters, Block, Test}
 use Rattle.cf_seek.specs.Opens.{Opens}
@@ -58,3 +60,9 @@ IsCalledFor rule log p (GetCfheaders filter start stop) = IsInTurn rule log p (G
 IsCalledFor rule log p (GetCfilters filter start stop) = IsNeeded rule.watch log p (GetCfilters filter start stop) × IsInTurn rule log p (GetCfilters filter start stop)
 IsCalledFor rule log p (GetData entries) = IsNeeded rule.watch log p (GetData entries) × IsInTurn rule log p (GetData entries)
 IsCalledFor rule log p m = Unit {0}
+
+-- what was sent was wanted and called for by a client that knew of no failure that it wasn't told of yet
+abbrev pub ArePlanned : Rule → Log → Type 0
+ArePlanned rule [] = Unit {0}
+ArePlanned rule (Sent p bytes ∷ log) = ((m : Msg) × (spelled bytes ≡ Some m) × ((planned : Log) × (IsPlanned planned log × (MaySendIn rule.mode planned p.0 m × IsCalledFor rule planned p.0 m)))) × ArePlanned rule log
+ArePlanned rule (_ ∷ log) = ArePlanned rule log

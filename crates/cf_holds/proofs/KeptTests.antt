@@ -31,15 +31,15 @@ use Rattle.cf_tables.specs.Known.{ExtractTable, TestResults}
 use Rattle.cf_seek.specs.Testing.{IsToTest, IsTrial, IsNextTrial}
 use Rattle.cf_tables.specs.Tests.{found_too}
 use Rattle.cf_tables.specs.Trials.{with_found}
-use Rattle.cf_seek.proofs.Along.{common_low}
-use Rattle.cf_seek.proofs.Stops.{back_ends, found_low}
-use Rattle.cf_sync.specs.Fetching.{counted_part, IsAbove, IsConnected, IsDisputed, IsFetched, IsFetchedHash, IsNoPiece, IsOmission, IsSameFetched, IsTest, IsTested, IsTestedWith, IsTestOf, IsTestWanted, HoldsFetched, RightlyIn, IsTestedThrough}
-use Rattle.cf_sync.specs.Kept.{AreClean, HoldsOutputs}
-use Rattle.cf_sync.specs.Known.{HoldsClaims, HoldsTests}
+use Rattle.cf_headers.proofs.Commons.{common_low}
+use Rattle.cf_headers.proofs.Found.{back_ends, found_low}
+use Rattle.cf_sync.specs.Fetching.{counted_part, IsAbove, IsConnected, IsDisputed, IsFetched, IsFetchedHash, IsNoPiece, IsOmission, IsSameFetched, IsTest, IsTested, IsTestedWith, IsTestOf, IsTestWanted, RightlyIn, IsTestedThrough}
+use Rattle.cf_holds.specs.Known.{HoldsFetched, HoldsClaims, HoldsTests}
+use Rattle.cf_holds.specs.Kept.{AreClean, HoldsOutputs}
 use Rattle.cf_sync.proofs.Answered.{fetched_hash_stays, test_fetched}
 use Rattle.cf_sync.proofs.Blamed.{tested_stays}
 use Rattle.cf_sync.proofs.Grows.{fetched_before, fetched_stays}
-use Rattle.cf_sync.proofs.Kept.{by_claims, claims_by, disputed_by, some_is}
+use Rattle.cf_holds.proofs.Kept.{by_claims, claims_by, disputed_by, some_is}
 use Rattle.cf_sync.proofs.Bodies.{one_body}
 use Rattle.cf_sync.proofs.Plans.{only_pieces_test}
 use Rattle.cf_sync.proofs.SameFetched.{same_fetched}
@@ -102,7 +102,7 @@ tested_through watch l extracts tables told chain p f h k on none height up low 
   by (Some true) e = (k.lacking block hash e).0
   by (Some false) e = k.holding block hash e
   by None e =
-      let within = common_low mine chain in
+      let within = (common_low mine chain).0 in
       let found = found_low block mine height (omega (arith, low, within)) refl in
       let c = by_claims l tables h p block hash on claimed in
       let some : 1 ≤ length found.0 = some_part block found.0 (back_ends block mine found.0 found.1) above in

@@ -1,6 +1,6 @@
-use Rattle.cf_sync.proofs.KeptOpens.{opens_put, opens_filters, opens_block, opens_closed, opens_same}
+use Rattle.cf_holds.proofs.KeptOpens.{opens_put, opens_filters, opens_block, opens_closed, opens_same}
 use Rattle.cf_sync.proofs.Alone.{alone_less}
-use Rattle.cf_sync.proofs.laws.what_is_kept_of_open_requests_goes_on.Goals as goal
+use Rattle.cf_holds.proofs.laws.what_is_kept_of_open_requests_goes_on.Goals as goal
 
 pub returns-clause-put : goal.returns-clause-put
 returns-clause-put c = opens_put
