@@ -1,5 +1,5 @@
 -- A good chain, and one block more.
-use Rattle.std.proofs.Common.{◌≡◌, ℕ, ◌<◌, ◌==◌, Bool, true, false, not, ◌&&◌, nat_le, List, [], ◌∷◌, ◌++◌, map, length, refl, sym, ◌∙◌, ap, subst, arith, append_assoc, length-append, Option, Some, None, Result, Ok, Err}
+use Rattle.std.proofs.Common.{◌≡◌, ℕ, ◌<◌, ◌==◌, Bool, true, false, ◌&&◌, nat_le, List, [], ◌∷◌, ◌++◌, map, length, refl, sym, ◌∙◌, ap, subst, arith, append_assoc, length-append, Option, Some, None, Result, Ok, Err}
 use Rattle.std.specs.Prelude.{reverse, if◌then◌else◌}
 use Rattle.std.specs.FinMap.{empty}
 use Rattle.std.proofs.lemmas.List.{map-append, reverse-append}
@@ -12,9 +12,9 @@ use Rattle.cf_block.specs.Tx.{IsBlock}
 use Rattle.cf_block.specs.Commitment.{commit_fault}
 use Rattle.cf_block.proofs.Committed.{passes as committed_if, is_good as no_commit_fault}
 use Rattle.cf_headers.specs.declared.rules.HeaderFault.{HeaderFault}
-use Rattle.cf_headers.specs.declared.rules.HeaderFault.TheVariants.{Parent, Bits, Work, Time}
 use Rattle.cf_headers.specs.Rules.{same, is_worked, is_within_target, is_timely, fault_after}
 use Rattle.cf_headers.specs.Chain.{Chain, tip_hash, past_of, fits, IsValidChain}
+use Rattle.cf_headers.proofs.Judging.{fits_where, rule}
 use Rattle.cf_chain.specs.Coins.{CoinMap, after_block, coins_after}
 use Rattle.cf_chain.specs.Good.{max_height, IsGoodBlock, AreGoodBlocks, headers_of, IsGoodChain}
 use Rattle.cf_coins.specs.declared.fault.CoinFault.{CoinFault}
@@ -57,26 +57,12 @@ valid_part (x ∷ xs) chain h = valid_part xs chain h.1
 
 -- ---- the causes, one by one
 
-abbrev rule : Bool → Bool → Bool → Bool → Option HeaderFault
-rule s b w t = if not s then Some Parent else if not b then Some Bits else if not w then Some Work else if t then None else Some Time
-
-fits_by : (s b w t : Bool) → rule s b w t ≡ None → (s && ((b && w) && t)) ≡ true
-fits_by true true true true h = refl
-fits_by true true true false h = cc
-fits_by true true false t h = cc
-fits_by true false w t h = cc
-fits_by false b w t h = cc
-
 no_fault_by : (s b w t : Bool) → (s && ((b && w) && t)) ≡ true → rule s b w t ≡ None
 no_fault_by true true true true h = refl
 no_fault_by true true true false h = cc
 no_fault_by true true false t h = cc
 no_fault_by true false w t h = cc
 no_fault_by false b w t h = cc
-
-may_stand : (h : Header) (chain : Chain) → fault_after (tip_hash chain) (past_of chain) h ≡ None → fits h chain ≡ true
-unfolding is_worked
-may_stand h chain e = fits_by (same h.previous.0 (tip_hash chain)) (h.bits == 0x207fffff) (is_within_target (block_hash_of h)) (is_timely (past_of chain) h) e
 
 stands : (h : Header) (chain : Chain) → fits h chain ≡ true → fault_after (tip_hash chain) (past_of chain) h ≡ None
 unfolding is_worked
@@ -115,7 +101,7 @@ good_more blocks b g spelled e =
     let three = or_none (in_commitment (commit_fault b)) _ two.1 in
     let new = coins_none (spend_txs (coins_after empty blocks) b.txs) three.1 in
     let txs = spent (coins_after empty blocks) new.0 b.txs new.1 in
-    let fit : fits b.header (headers_of blocks) ≡ true = may_stand b.header (headers_of blocks) (header_none _ one.0) in
+    let fit : fits b.header (headers_of blocks) ≡ true = fits_where b.header (headers_of blocks) (header_none _ one.0) in
     let low : length blocks < max_height = low_by (length blocks) (nat_le max_height (length blocks)) refl two.0 in
     let at : IsGoodBlock (coins_after empty blocks) b = record { spelled = spelled; committed = committed_if b (commit_none (commit_fault b) three.0); coinbase = txs.0; txs = txs.1 } in
     record {
