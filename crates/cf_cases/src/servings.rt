@@ -10,9 +10,10 @@ use cf_rows::{Host, Limited, answered};
 use cf_tasks::Choice;
 use cf_wires::MemoryWires;
 use std::alloc::Global;
+use std::thread::Threads;
 
 /// Does with each task what a field tells.
-pub(crate) fn spawner_in<R: Host>(rt: R, field: &str) -> Option<Limited<R>> {
+pub(crate) fn spawner_in<R: Threads + Copy + Drop>(rt: R, field: &str) -> Option<Limited<R>> {
     match field {
         "threads" => Some(Limited::new(rt, Choice::InThread, u32::MAX)),
         "place" => Some(Limited::new(rt, Choice::InPlace, u32::MAX)),
