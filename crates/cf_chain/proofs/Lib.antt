@@ -1,6 +1,5 @@
 pub mod Places
 pub mod Answering
 pub mod Bounds
-pub mod Outpoints
 pub mod Growing
 pub mod Tops

@@ -5,7 +5,7 @@ use Rattle.std.specs.Map.{lookup}
 use Rattle.std.specs.FinMap.{get, from_entries}
 use Rattle.cf_block.specs.declared.tx.OutPoint.{OutPoint}
 use Rattle.cf_block.specs.Outpoint.{outpoint_cmp}
-use Rattle.cf_chain.proofs.Outpoints.{outpoint_total}
+use Rattle.cf_block.proofs.Outpoints.{outpoint_total}
 use Rattle.cf_coins.proofs.Maps.{found}
 
 -- what is found at an outpoint

@@ -15,7 +15,7 @@ use Rattle.cf_block.specs.Output.{Output}
 use Rattle.cf_block.specs.Outpoint.{outpoint, outpoint_cmp, spends_of}
 use Rattle.cf_block.specs.Tx.{txid_of}
 use Rattle.cf_chain.specs.Coins.{CoinMap}
-use Rattle.cf_chain.proofs.Outpoints.{outpoint_total, same_name}
+use Rattle.cf_block.proofs.Outpoints.{outpoint_total, same_name}
 use Rattle.cf_coins.specs.declared.fault.CoinFault.{CoinFault}
 use Rattle.cf_coins.specs.declared.fault.CoinFault.TheVariants.{Exists}
 use Rattle.cf_coins.specs.Spending.{found, take_all, put_all, spend, spend_all, coinbase_fault, unless_fault, spend_txs, Refuses}

@@ -8,7 +8,7 @@ use Rattle.cf_block.specs.declared.tx.OutPoint.{OutPoint}
 use Rattle.cf_block.specs.Output.{Output}
 use Rattle.cf_block.specs.Outpoint.{outpoint_cmp}
 use Rattle.cf_chain.specs.Coins.{CoinMap}
-use Rattle.cf_chain.proofs.Outpoints.{outpoint_total, same_name}
+use Rattle.cf_block.proofs.Outpoints.{outpoint_total, same_name}
 
 abbrev pub Stands : CoinMap → OutPoint → Type 0
 Stands coins p = IsTrue (is_some (get coins p))

@@ -12,7 +12,7 @@ use Rattle.cf_block.specs.Tx.{txid_of}
 use Rattle.cf_scan.specs.declared.history.Entry.{Entry}
 use Rattle.cf_scan.specs.Coins.{CoinMap, total}
 use Rattle.cf_scan.specs.Scan.{Scanned, unscanned, take_one, take_out, coins_after, touches, entry_of, after_change, made_from, after_tx, scan_from, scan_of, watched_coins, balance_of}
-use Rattle.cf_scan.proofs.CoinMaps.{outpoint_total, outpoint_same}
+use Rattle.cf_block.proofs.Outpoints.{outpoint_total, outpoint_same}
 use Rattle.cf_scan.proofs.Totals.{remove_absent, sum_of-empty}
 
 taken_more : (values : List ℕ) (coins : CoinMap) (ps : List OutPoint) → length values ≤ length (fold take_one (values, coins) ps).0

@@ -1,37 +1,19 @@
 -- The map of coins, as the code keeps it.
-use Rattle.std.proofs.Common.{◌≡◌, ℕ, ◌+◌, ◌*◌, ◌^◌, ◌<◌, ◌≤◌, ◌-◌, cond, length, T, List, refl, sym, ◌∙◌, ap, subst, arith, Some, None}
+use Rattle.std.proofs.Common.{◌≡◌, ℕ, ◌+◌, ◌*◌, ◌^◌, ◌<◌, ◌≤◌, ◌-◌, cond, length, List, sym, ◌∙◌, ap, arith, Some, None}
 use Rattle.std.specs.Prelude.{unwrap_or, All}
 use Rattle.std.specs.Map.{remove_entry, values_of}
 use Rattle.std.specs.BTreeMap.{insert_entry}
 use Rattle.std.proofs.lemmas.Map.Views.{All-map-remove_entry, All-values-insert_entry}
 use Rattle.std.proofs.lemmas.List.Sums.{sum_by-le}
 use Rattle.std.proofs.lemmas.List.{length-map}
-use Rattle.std.specs.declared.cmp.Ordering.{Ordering}
-use Rattle.std.specs.declared.cmp.Ordering.TheVariants.{Less, Equal, Greater}
-use Rattle.std.specs.Ordering.{is_eq, nat_cmp, ordering_then}
-use Rattle.std.specs.Cmp.{IsTotalOrder, then_total, on_total, nat_cmp_total}
-use Rattle.std.specs.Cmp.Lexicographic.{slice_cmp, nat_list_cmp_total}
+use Rattle.std.specs.Ordering.{is_eq}
 use Rattle.std.specs.Map.{lookup}
-use Rattle.std.specs.FinMap.{get, insert, remove, from_entries, get-from_entries, IsAntisymmetric, nat_cmp-IsAntisymmetric, slice_cmp-IsAntisymmetric}
+use Rattle.std.specs.FinMap.{get, insert, remove, from_entries, get-from_entries}
 use Rattle.cf_block.specs.declared.tx.OutPoint.{OutPoint}
 use Rattle.cf_block.specs.Outpoint.{outpoint_cmp}
+use Rattle.cf_block.proofs.Outpoints.{outpoint_total, outpoint_same}
 use Rattle.cf_scan.specs.Coins.{total, AreSummed}
 use Rattle.cf_scan.proofs.Totals.{find-lookup, removed, inserted, sum_of-remove, sum_of-insert, sum_of-le, worth}
-
-pub outpoint_total : IsTotalOrder outpoint_cmp
-outpoint_total = then_total (on_total (λ (p : OutPoint). p.txid.0) nat_list_cmp_total) (on_total (λ (p : OutPoint). p.index) nat_cmp_total)
-
-both_equal : (r s : Ordering) → ordering_then r s ≡ Equal → (r ≡ Equal) × (s ≡ Equal)
-both_equal Less s e = absurd (subst (λ r. T (is_eq r)) (sym e) tt)
-both_equal Equal s e = (refl, e)
-both_equal Greater s e = absurd (subst (λ r. T (is_eq r)) (sym e) tt)
-
-pub outpoint_same : IsAntisymmetric outpoint_cmp
-outpoint_same x y e =
-    let parts = both_equal (slice_cmp nat_cmp x.txid.0 y.txid.0) (nat_cmp x.index y.index) e in
-    let txids : x.txid.0 ≡ y.txid.0 = slice_cmp-IsAntisymmetric nat_cmp-IsAntisymmetric x.txid.0 y.txid.0 parts.0 in
-    let indexes : x.index ≡ y.index = nat_cmp-IsAntisymmetric x.index y.index parts.1 in
-    λ i. record { txid = record { 0 = txids i }; index = indexes i }
 
 -- what is found at an outpoint
 pub got : {X : Type 0} (es : List (OutPoint × X)) (p : OutPoint) → get (from_entries {R = outpoint_cmp} es) p ≡ lookup (λ k. is_eq (outpoint_cmp p k)) es

@@ -16,7 +16,7 @@ use Rattle.cf_scan.specs.Scan.{Scanned, unscanned, Taking, take_one, take_out, p
 use Rattle.cf_scan.specs.Extracts.{placed_from, extracts_of, coin_of, after_extract, after_placed, history_of}
 use Rattle.cf_scan.specs.Extract.{pays_from, tx_extract_of, extract_of}
 use Rattle.cf_scan.specs.Idle.{IsIdleTx, IsIdle, LeavesOutIdle}
-use Rattle.cf_scan.proofs.CoinMaps.{outpoint_total, outpoint_same}
+use Rattle.cf_block.proofs.Outpoints.{outpoint_total, outpoint_same}
 use Rattle.cf_scan.proofs.Totals.{remove_absent}
 
 -- the outputs that are kept are the coins that are made

@@ -19,7 +19,7 @@ use Rattle.cf_chain.specs.Coins.{CoinMap, without, with_outputs, spent, spent_by
 use Rattle.cf_chain.specs.Good.{NoneStands, IsGoodTx, AreGoodTxs}
 use Rattle.cf_chain.specs.Filters.{prevouts}
 use Rattle.cf_chain.proofs.Bounds.{block_few}
-use Rattle.cf_chain.proofs.Outpoints.{outpoint_total, is_equal, same_name}
+use Rattle.cf_block.proofs.Outpoints.{outpoint_total, is_equal, same_name}
 use Rattle.cf_filter.specs.Items.{paid_scripts, items_of, IsItem}
 use Rattle.cf_filter.specs.Filter.{basic_filter_of, match_of}
 use Rattle.cf_filter.proofs.Values.{no_member}

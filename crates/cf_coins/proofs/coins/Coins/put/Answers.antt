@@ -1,6 +1,6 @@
 use Rattle.std.proofs.Common.{sym, ◌∙◌, ap}
 use Rattle.std.specs.Prelude.{is_some}
-use Rattle.cf_chain.proofs.Outpoints.{outpoint_total, outpoint_same}
+use Rattle.cf_block.proofs.Outpoints.{outpoint_total, outpoint_same}
 use Rattle.cf_coins.proofs.CoinMaps.{got}
 use Rattle.cf_coins.proofs.Maps.{inserted}
 use Rattle.cf_coins.proofs.coins.Coins.put.Goals as goal

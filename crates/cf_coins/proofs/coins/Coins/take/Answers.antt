@@ -1,5 +1,5 @@
 use Rattle.std.proofs.Common.{sym, ◌∙◌}
-use Rattle.cf_chain.proofs.Outpoints.{outpoint_total, outpoint_same}
+use Rattle.cf_block.proofs.Outpoints.{outpoint_total, outpoint_same}
 use Rattle.cf_coins.proofs.CoinMaps.{got}
 use Rattle.cf_coins.proofs.Maps.{removed}
 use Rattle.cf_coins.proofs.coins.Coins.take.Goals as goal
