@@ -50,7 +50,7 @@ impl Listener {
     }
 }
 
-// The way of this number in which a connection ended.
+// The way of this number in which a connection ended: the numbers are those of `cf_grow::Ending::number`.
 fn way(how: u8) -> &'static str {
     match how {
         0 => "the peer has closed it",
