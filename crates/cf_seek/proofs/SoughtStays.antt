@@ -150,29 +150,23 @@ closed_free before after p never others free q = elim (cases_eq q p) [
   | inr ne ↦ sym (others q ne) ∙ free q
 ]
 
+closed_filters : (opens now : Opens) (p : ℕ) (block : Hash) → Closes opens now p → (opens.filters p block ≡ true → ⊥) → ((q : ℕ) → now.filters q block ≡ false) → (q : ℕ) → opens.filters q block ≡ false
+closed_filters opens now p block closes never = closed_free (λ q. opens.filters q block) (λ q. now.filters q block) p never (λ q ne. closes.others.filters q ne block)
+
+closed_blocks : (opens now : Opens) (p : ℕ) (block : Hash) → Closes opens now p → (opens.blocks p block ≡ true → ⊥) → ((q : ℕ) → now.blocks q block ≡ false) → (q : ℕ) → opens.blocks q block ≡ false
+closed_blocks opens now p block closes never = closed_free (λ q. opens.blocks q block) (λ q. now.blocks q block) p never (λ q ne. closes.others.blocks q ne block)
+
 pub sought_closes : (extracts : ExtractTable) (tables : Tables) (verdicts : Verdicts) (opens now : Opens) (p : ℕ) (own : Chain) (most : ℕ) → Closes opens now p
     → ((block : Hash) → opens.filters p block ≡ true → IsUnjudged extracts tables verdicts block → ⊥)
     → AreSought extracts tables verdicts opens own most → AreSought extracts tables verdicts now own most
-sought_closes extracts tables verdicts opens now p own most closes answered =
-    sought_by extracts extracts tables tables verdicts verdicts opens now own most
-    (λ h up low is. (
-    let block = hash_at own h in
-    let free = closed_free (λ q. opens.filters q block) (λ q. now.filters q block) p (λ on. answered block on is.un)
-    (λ q ne. closes.others.filters q ne block) is.free in
-    record { above = is.above; un = is.un; free = free }
-    ))
+sought_closes extracts tables verdicts opens now p own most closes answered are h up low is =
+    are h up low (record { above = is.above; un = is.un; free = closed_filters opens now p (hash_at own h) closes (λ on. answered (hash_at own h) on is.un) is.free })
 
 pub passed_closes : (extracts : ExtractTable) (tables : Tables) (verdicts : Verdicts) (opens now : Opens) (p : ℕ) (own : Chain) (most : ℕ) → Closes opens now p
     → ((block : Hash) → opens.blocks p block ≡ true → IsToFetch extracts tables verdicts block → ⊥)
     → ArePassed extracts tables verdicts opens own most → ArePassed extracts tables verdicts now own most
-passed_closes extracts tables verdicts opens now p own most closes answered =
-    passed_by extracts extracts tables tables verdicts verdicts opens now own most
-    (λ h up low is. (
-    let block = hash_at own h in
-    let free = closed_free (λ q. opens.blocks q block) (λ q. now.blocks q block) p (λ on. answered block on is.due)
-    (λ q ne. closes.others.blocks q ne block) is.free in
-    record { above = is.above; due = is.due; free = free }
-    ))
+passed_closes extracts tables verdicts opens now p own most closes answered are h up low is =
+    are h up low (record { above = is.above; due = is.due; free = closed_blocks opens now p (hash_at own h) closes (λ on. answered (hash_at own h) on is.due) is.free })
 
 -- a chain became a longer one: it stays so up to the height at which that links
 pub same_below : (hs : List Header) (own next : Chain) (h : ℕ) → accept hs own ≡ Longer next → h ≤ link_height hs own → hash_at own h ≡ hash_at next h

@@ -83,9 +83,8 @@ impl Cursors {
     pub fn put(&mut self, p: PeerNo, marks: Marks)
         ensures { self.new ≡ slice_set self.old p.0 marks }
     {
-        let place = p.0 as usize;
-        if place < self.marks.len() {
-            self.marks[place] = marks;
+        if let Some(old) = self.marks.get_mut(p.0 as usize) {
+            *old = marks;
         }
     }
 

@@ -6,36 +6,30 @@ ghost use Rattle.cf_headers.specs.Store.{own_of};
 ghost use Rattle.cf_tables.specs.Wanting.{IsAbove};
 ghost use Rattle.cf_seek.specs.Ends.{AreUnclaimed, IsLastUnclaimed};
 
+use crate::known::Known;
 use cf_bytes::PeerNo;
-use cf_dispute::Claims;
 use cf_headers::HeaderStore;
-use cf_tables::{First, is_unclaimed};
+use cf_tables::is_unclaimed;
 
 /// The last height, from one on whose block a peer doesn't claim, that it may be asked to claim at once.
-pub fn claims_end<H: HeaderStore>(
-    store: &H,
-    claims: &Claims,
-    p: PeerNo,
-    first: &First,
-    start: u32,
-    common: u32,
-) -> u32
+pub fn claims_end<H: HeaderStore>(store: &H, known: Known, p: PeerNo, start: u32, most: u32) -> u32
     requires entered { IsSome (H.chain store.now p.0) }
-    requires within { common ≤ length (own_of (H.chain store.now) p) }
-    requires low { start ≤ common }
+    requires within { most ≤ length (own_of (H.chain store.now) p) }
+    requires low { start ≤ most }
     requires above { IsAbove (hash_at (own_of (H.chain store.now) p) start) }
-    requires new { tables_of claims.now p.0 (hash_at (own_of (H.chain store.now) p) start) ≡ None }
-    ensures new { AreUnclaimed (tables_of claims.now) p.0 (own_of (H.chain store.now) p) start result }
+    requires new { tables_of known.claims.now p.0 (hash_at (own_of (H.chain store.now) p) start) ≡ None }
+    ensures new { AreUnclaimed (tables_of known.entry.claims.now) p.0 (own_of (H.chain store.now) p) start result }
     ensures up { start ≤ result }
-    ensures low { result ≤ common }
+    ensures low { result ≤ most }
     ensures few { result < start + 2000 }
-    ensures last { IsLastUnclaimed (tables_of claims.now) p.0 (own_of (H.chain store.now) p) start result common }
+    ensures last { IsLastUnclaimed (tables_of known.entry.claims.now) p.0 (own_of (H.chain store.now) p) start result
+        most }
 {
-    let most = start + (common - start).min(1999);
-    for height in start..most {
-        if !is_unclaimed(claims, p, first, &store.hash_at(p, height + 1)) {
+    let end = start + (most - start).min(1999);
+    for height in start..end {
+        if !is_unclaimed(known.claims, p, known.first, &store.hash_at(p, height + 1)) {
             return height;
         }
     }
-    most
+    end
 }

@@ -4,6 +4,7 @@
 mod aims;
 mod cursors;
 mod ends;
+mod known;
 mod laws;
 mod open_at;
 mod opens;
@@ -16,6 +17,7 @@ mod wishes;
 
 pub use aims::Aims;
 pub use cursors::Cursors;
+pub use known::Known;
 pub use laws::what_is_passed_stays_so;
 pub use opens::Opens;
 pub use seek::{fall_below_hits, is_any_left, next_sought, passed_below};

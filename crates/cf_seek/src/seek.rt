@@ -14,101 +14,68 @@ ghost use Rattle.cf_seek.specs.Tracking.{AreRaised, IsFallen, IsMarked, IsWithin
 ghost use Rattle.cf_tables.specs.declared.kind.Kind.TheVariants.{ToFetch};
 
 use crate::cursors::{Cursors, Marks};
+use crate::known::Known;
 use crate::open_at::OpenAt;
-use crate::opens::Opens;
 use crate::want::{Want, climb_claimed};
 use cf_bytes::{Hash32, PeerNo};
 use cf_dispute::Claims;
 use cf_headers::HeaderStore;
 use cf_match::{Job, Verdict};
-use cf_tables::{Extracts, First, Judged, Kind, is_unjudged, kind_above, kind_of};
+use cf_tables::{Extracts, Judged, Kind, is_unjudged, kind_of};
 
 // Whether a block is to be fetched.
 fn is_due(kind: Kind) -> bool
     ensures yes { result ≡ true → kind ≡ ToFetch }
     ensures no { result ≡ false → kind ≢ ToFetch }
 {
-    match kind {
-        Kind::ToFetch => true,
-        _ => false,
-    }
+    matches!(kind, Kind::ToFetch)
 }
 
 // Whether a block's filter is to be asked for, and open to nobody.
-fn is_to_ask(
-    extracts: &Extracts,
-    claims: &Claims,
-    judged: &Judged,
-    opens: &Opens,
-    first: &First,
-    block: &Hash32,
-) -> bool
-    ensures yes { result ≡ true → IsToAsk (table_in extracts.now) (tables_of claims.now) (verdicts_in judged.now)
-        (opens_in opens.now) block.now.0 }
-    ensures no { result ≡ false → IsToAsk (table_in extracts.now) (tables_of claims.now) (verdicts_in judged.now)
-        (opens_in opens.now) block.now.0 → ⊥ }
+fn is_to_ask(known: Known, block: &Hash32) -> bool
+    ensures yes { result ≡ true → IsToAsk (table_in known.entry.extracts.now) (tables_of known.entry.claims.now)
+        (verdicts_in known.entry.judged.now) (opens_in known.entry.opens.now) block.now.0 }
+    ensures no { result ≡ false → IsToAsk (table_in known.entry.extracts.now) (tables_of known.entry.claims.now)
+        (verdicts_in known.entry.judged.now) (opens_in known.entry.opens.now) block.now.0 → ⊥ }
 {
-    let kind = kind_above(extracts, claims, judged, first, block);
+    let kind = known.kind_above(block);
     if !is_unjudged(kind) {
         return false;
     }
-    opens.is_filter_free(block)
+    known.opens.is_filter_free(block)
 }
 
 // Whether a block is to be fetched, and open to nobody.
-fn is_to_get(
-    extracts: &Extracts,
-    claims: &Claims,
-    judged: &Judged,
-    opens: &Opens,
-    first: &First,
-    block: &Hash32,
-) -> bool
-    ensures yes { result ≡ true → IsToGet (table_in extracts.now) (tables_of claims.now) (verdicts_in judged.now)
-        (opens_in opens.now) block.now.0 }
-    ensures no { result ≡ false → IsToGet (table_in extracts.now) (tables_of claims.now) (verdicts_in judged.now)
-        (opens_in opens.now) block.now.0 → ⊥ }
+fn is_to_get(known: Known, block: &Hash32) -> bool
+    ensures yes { result ≡ true → IsToGet (table_in known.entry.extracts.now) (tables_of known.entry.claims.now)
+        (verdicts_in known.entry.judged.now) (opens_in known.entry.opens.now) block.now.0 }
+    ensures no { result ≡ false → IsToGet (table_in known.entry.extracts.now) (tables_of known.entry.claims.now)
+        (verdicts_in known.entry.judged.now) (opens_in known.entry.opens.now) block.now.0 → ⊥ }
 {
-    let kind = kind_above(extracts, claims, judged, first, block);
+    let kind = known.kind_above(block);
     if !is_due(kind) {
         return false;
     }
-    opens.is_block_free(block)
+    known.opens.is_block_free(block)
 }
 
 // How far no filter of a peer's blocks is to be asked for, from a height up to which none is, and no further than
 // asked.
-fn climb_sought<H: HeaderStore>(
-    store: &H,
-    extracts: &Extracts,
-    claims: &Claims,
-    judged: &Judged,
-    opens: &Opens,
-    p: PeerNo,
-    first: &First,
-    from: u32,
-    most: u32,
-) -> u32
+fn climb_sought<H: HeaderStore>(store: &H, known: Known, p: PeerNo, from: u32, most: u32) -> u32
     requires entered { IsSome (H.chain store.now p.0) }
     requires within { most ≤ length (own_of (H.chain store.now) p) }
-    requires sought { AreSought (table_in extracts.now) (tables_of claims.now) (verdicts_in judged.now)
-        (opens_in opens.now) (own_of (H.chain store.now) p) from }
-    ensures sought { AreSought (table_in extracts.now) (tables_of claims.now) (verdicts_in judged.now)
-        (opens_in opens.now) (own_of (H.chain store.now) p) result }
+    requires sought { AreSought (table_in known.extracts.now) (tables_of known.claims.now)
+        (verdicts_in known.judged.now) (opens_in known.opens.now) (own_of (H.chain store.now) p) from }
+    ensures sought { AreSought (table_in known.entry.extracts.now) (tables_of known.entry.claims.now)
+        (verdicts_in known.entry.judged.now) (opens_in known.entry.opens.now) (own_of (H.chain store.now) p) result }
     ensures up { from ≤ result }
     ensures low { result ≤ max from most }
-    ensures next { result < most → IsToAsk (table_in extracts.now) (tables_of claims.now) (verdicts_in judged.now)
-        (opens_in opens.now) (hash_at (own_of (H.chain store.now) p) (result + 1)) }
+    ensures next { result < most → IsToAsk (table_in known.entry.extracts.now) (tables_of known.entry.claims.now)
+        (verdicts_in known.entry.judged.now) (opens_in known.entry.opens.now)
+        (hash_at (own_of (H.chain store.now) p) (result + 1)) }
 {
     for height in from..most {
-        if is_to_ask(
-            extracts,
-            claims,
-            judged,
-            opens,
-            first,
-            &store.hash_at(p, height + 1),
-        ) {
+        if is_to_ask(known, &store.hash_at(p, height + 1)) {
             return height;
         }
     }
@@ -116,37 +83,21 @@ fn climb_sought<H: HeaderStore>(
 }
 
 // How far none of a peer's blocks is to be fetched, from a height up to which none is, and no further than asked.
-fn climb_passed<H: HeaderStore>(
-    store: &H,
-    extracts: &Extracts,
-    claims: &Claims,
-    judged: &Judged,
-    opens: &Opens,
-    p: PeerNo,
-    first: &First,
-    from: u32,
-    most: u32,
-) -> u32
+fn climb_passed<H: HeaderStore>(store: &H, known: Known, p: PeerNo, from: u32, most: u32) -> u32
     requires entered { IsSome (H.chain store.now p.0) }
     requires within { most ≤ length (own_of (H.chain store.now) p) }
-    requires passed { ArePassed (table_in extracts.now) (tables_of claims.now) (verdicts_in judged.now)
-        (opens_in opens.now) (own_of (H.chain store.now) p) from }
-    ensures passed { ArePassed (table_in extracts.now) (tables_of claims.now) (verdicts_in judged.now)
-        (opens_in opens.now) (own_of (H.chain store.now) p) result }
+    requires passed { ArePassed (table_in known.extracts.now) (tables_of known.claims.now)
+        (verdicts_in known.judged.now) (opens_in known.opens.now) (own_of (H.chain store.now) p) from }
+    ensures passed { ArePassed (table_in known.entry.extracts.now) (tables_of known.entry.claims.now)
+        (verdicts_in known.entry.judged.now) (opens_in known.entry.opens.now) (own_of (H.chain store.now) p) result }
     ensures up { from ≤ result }
     ensures low { result ≤ max from most }
-    ensures next { result < most → IsToGet (table_in extracts.now) (tables_of claims.now) (verdicts_in judged.now)
-        (opens_in opens.now) (hash_at (own_of (H.chain store.now) p) (result + 1)) }
+    ensures next { result < most → IsToGet (table_in known.entry.extracts.now) (tables_of known.entry.claims.now)
+        (verdicts_in known.entry.judged.now) (opens_in known.entry.opens.now)
+        (hash_at (own_of (H.chain store.now) p) (result + 1)) }
 {
     for height in from..most {
-        if is_to_get(
-            extracts,
-            claims,
-            judged,
-            opens,
-            first,
-            &store.hash_at(p, height + 1),
-        ) {
+        if is_to_get(known, &store.hash_at(p, height + 1)) {
             return height;
         }
     }
@@ -154,56 +105,37 @@ fn climb_passed<H: HeaderStore>(
 }
 
 /// The last height, from one on whose block's filter is to be asked for, up to which filters may be asked for at once.
-pub fn sought_end<H: HeaderStore>(
-    store: &H,
-    extracts: &Extracts,
-    claims: &Claims,
-    judged: &Judged,
-    opens: &Opens,
-    p: PeerNo,
-    first: &First,
-    start: u32,
-    common: u32,
-) -> u32
+pub fn sought_end<H: HeaderStore>(store: &H, known: Known, p: PeerNo, start: u32, most: u32) -> u32
     requires entered { IsSome (H.chain store.now p.0) }
-    requires within { common ≤ length (own_of (H.chain store.now) p) }
-    requires low { start ≤ common }
-    requires this { IsToAsk (table_in extracts.now) (tables_of claims.now) (verdicts_in judged.now) (opens_in opens.now)
-        (hash_at (own_of (H.chain store.now) p) start) }
-    ensures all { AreToAsk (table_in extracts.now) (tables_of claims.now) (verdicts_in judged.now) (opens_in opens.now)
+    requires within { most ≤ length (own_of (H.chain store.now) p) }
+    requires low { start ≤ most }
+    requires this { IsToAsk (table_in known.extracts.now) (tables_of known.claims.now)
+        (verdicts_in known.judged.now) (opens_in known.opens.now) (hash_at (own_of (H.chain store.now) p) start) }
+    ensures all { AreToAsk (table_in known.entry.extracts.now) (tables_of known.entry.claims.now)
+        (verdicts_in known.entry.judged.now) (opens_in known.entry.opens.now)
         (own_of (H.chain store.now) p) start result }
     ensures up { start ≤ result }
-    ensures low { result ≤ common }
+    ensures low { result ≤ most }
     ensures few { result < start + 1000 }
-    ensures last { IsLastToAsk (table_in extracts.now) (tables_of claims.now) (verdicts_in judged.now)
-        (opens_in opens.now) (own_of (H.chain store.now) p) start result common }
+    ensures last { IsLastToAsk (table_in known.entry.extracts.now) (tables_of known.entry.claims.now)
+        (verdicts_in known.entry.judged.now) (opens_in known.entry.opens.now)
+        (own_of (H.chain store.now) p) start result most }
 {
-    let most = start + (common - start).min(999);
-    for height in start..most {
-        if !is_to_ask(
-            extracts,
-            claims,
-            judged,
-            opens,
-            first,
-            &store.hash_at(p, height + 1),
-        ) {
+    let end = start + (most - start).min(999);
+    for height in start..end {
+        if !is_to_ask(known, &store.hash_at(p, height + 1)) {
             return height;
         }
     }
-    most
+    end
 }
 
 /// What a peer is to be asked for next of the blocks up to a height, and where the next call goes on. Nothing is to be
 /// asked for of its blocks up to two other heights, whoever was asked about them.
 pub fn next_sought<H: HeaderStore>(
     store: &H,
-    extracts: &Extracts,
-    claims: &Claims,
-    judged: &Judged,
-    opens: &Opens,
+    known: Known,
     p: PeerNo,
-    first: &First,
     from: Marks,
     shared_sought: u32,
     shared_passed: u32,
@@ -211,50 +143,48 @@ pub fn next_sought<H: HeaderStore>(
 ) -> (Marks, Want)
     requires entered { IsSome (H.chain store.now p.0) }
     requires within { common ≤ length (own_of (H.chain store.now) p) }
-    requires sought { AreSought (table_in extracts.now) (tables_of claims.now) (verdicts_in judged.now)
-        (opens_in opens.now) (own_of (H.chain store.now) p) shared_sought }
-    requires passed { ArePassed (table_in extracts.now) (tables_of claims.now) (verdicts_in judged.now)
-        (opens_in opens.now) (own_of (H.chain store.now) p) shared_passed }
-    requires marks { IsMarked (table_in extracts.now) (tables_of claims.now) (verdicts_in judged.now)
-        (opens_in opens.now) p.0 (own_of (H.chain store.now) p) from }
-    ensures marks { IsMarked (table_in extracts.now) (tables_of claims.now) (verdicts_in judged.now)
-        (opens_in opens.now) p.0 (own_of (H.chain store.now) p) result.0 }
-    ensures want { IsSought (table_in extracts.now) (tables_of claims.now) (verdicts_in judged.now)
-        (opens_in opens.now) p.0 (own_of (H.chain store.now) p) common result.1 }
+    requires sought { AreSought (table_in known.extracts.now) (tables_of known.claims.now)
+        (verdicts_in known.judged.now) (opens_in known.opens.now) (own_of (H.chain store.now) p) shared_sought }
+    requires passed { ArePassed (table_in known.extracts.now) (tables_of known.claims.now)
+        (verdicts_in known.judged.now) (opens_in known.opens.now) (own_of (H.chain store.now) p) shared_passed }
+    requires marks { IsMarked (table_in known.extracts.now) (tables_of known.claims.now) (verdicts_in known.judged.now)
+        (opens_in known.opens.now) p.0 (own_of (H.chain store.now) p) from }
+    ensures marks { IsMarked (table_in known.entry.extracts.now) (tables_of known.entry.claims.now)
+        (verdicts_in known.entry.judged.now) (opens_in known.entry.opens.now)
+        p.0 (own_of (H.chain store.now) p) result.0 }
+    ensures want { IsSought (table_in known.entry.extracts.now) (tables_of known.entry.claims.now)
+        (verdicts_in known.entry.judged.now) (opens_in known.entry.opens.now)
+        p.0 (own_of (H.chain store.now) p) common result.1 }
     ensures up { AreRaised from result.0 shared_sought shared_passed }
 {
-    let claimed = climb_claimed(store, claims, p, first, from.claimed, common);
+    let claimed = climb_claimed(store, known, p, from.claimed, common);
     let marks = from.raised(claimed, shared_sought, shared_passed);
     if claimed < common {
         return (marks, Want::Claims(claimed + 1));
     }
-    sought_of_claimed(
-        store, extracts, claims, judged, opens, p, first, marks, common,
-    )
+    sought_of_claimed(store, known, p, marks, common)
 }
 
 // What a peer is to be asked for next of the blocks up to a height, all of which it claims, and where the next call
 // goes on.
 fn sought_of_claimed<H: HeaderStore>(
     store: &H,
-    extracts: &Extracts,
-    claims: &Claims,
-    judged: &Judged,
-    opens: &Opens,
+    known: Known,
     p: PeerNo,
-    first: &First,
     from: Marks,
     common: u32,
 ) -> (Marks, Want)
     requires entered { IsSome (H.chain store.now p.0) }
     requires within { common ≤ length (own_of (H.chain store.now) p) }
     requires claimed { common ≤ from.claimed }
-    requires marks { IsMarked (table_in extracts.now) (tables_of claims.now) (verdicts_in judged.now)
-        (opens_in opens.now) p.0 (own_of (H.chain store.now) p) from }
-    ensures marks { IsMarked (table_in extracts.now) (tables_of claims.now) (verdicts_in judged.now)
-        (opens_in opens.now) p.0 (own_of (H.chain store.now) p) result.0 }
-    ensures want { IsSought (table_in extracts.now) (tables_of claims.now) (verdicts_in judged.now)
-        (opens_in opens.now) p.0 (own_of (H.chain store.now) p) common result.1 }
+    requires marks { IsMarked (table_in known.extracts.now) (tables_of known.claims.now) (verdicts_in known.judged.now)
+        (opens_in known.opens.now) p.0 (own_of (H.chain store.now) p) from }
+    ensures marks { IsMarked (table_in known.entry.extracts.now) (tables_of known.entry.claims.now)
+        (verdicts_in known.entry.judged.now) (opens_in known.entry.opens.now)
+        p.0 (own_of (H.chain store.now) p) result.0 }
+    ensures want { IsSought (table_in known.entry.extracts.now) (tables_of known.entry.claims.now)
+        (verdicts_in known.entry.judged.now) (opens_in known.entry.opens.now)
+        p.0 (own_of (H.chain store.now) p) common result.1 }
     ensures up { (result.0.claimed ≡ from.claimed) × (from.sought ≤ result.0.sought) × (from.passed ≤ result.0.passed) }
 {
     let Marks {
@@ -262,9 +192,7 @@ fn sought_of_claimed<H: HeaderStore>(
         sought,
         passed,
     } = from;
-    let sought = climb_sought(
-        store, extracts, claims, judged, opens, p, first, sought, common,
-    );
+    let sought = climb_sought(store, known, p, sought, common);
     if sought < common {
         return (
             Marks {
@@ -275,9 +203,7 @@ fn sought_of_claimed<H: HeaderStore>(
             Want::Filters(sought + 1),
         );
     }
-    let passed = climb_passed(
-        store, extracts, claims, judged, opens, p, first, passed, common,
-    );
+    let passed = climb_passed(store, known, p, passed, common);
     let marks = Marks {
         claimed,
         sought,

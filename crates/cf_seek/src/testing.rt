@@ -9,10 +9,11 @@ ghost use Rattle.cf_seek.specs.Tried.{AreTried, IsToTry};
 ghost use Rattle.cf_tables.specs.Tests.{told_in};
 ghost use Rattle.cf_headers.specs.Chain.{IsIn};
 
+use crate::known::Known;
 use cf_bytes::{Hash32, PeerNo};
 use cf_dispute::Claims;
 use cf_headers::HeaderStore;
-use cf_tables::{Extracts, First, Tests, is_differing};
+use cf_tables::{Tests, is_differing};
 
 /// A block whose claimed filter is to be tested, and its height.
 #[derive(Clone, Copy, Debug)]
@@ -87,29 +88,22 @@ pub fn first_exposed(
 
 // Whether a block that hasn't the first block's hash was fetched, they differ on its filter, and what a peer claims of
 // it wasn't tested.
-fn is_to_try(
-    extracts: &Extracts,
-    claims: &Claims,
-    tests: &Tests,
-    p: PeerNo,
-    first: &First,
-    block: &Hash32,
-) -> bool
-    ensures yes { result ≡ true
-        → IsToTry (table_in extracts.now) (tables_of claims.now) (told_in tests.now) p.0 block.now.0 }
-    ensures no { result ≡ false
-        → IsToTry (table_in extracts.now) (tables_of claims.now) (told_in tests.now) p.0 block.now.0 → ⊥ }
+fn is_to_try(known: Known, tests: &Tests, p: PeerNo, block: &Hash32) -> bool
+    ensures yes { result ≡ true → IsToTry (table_in known.entry.extracts.now) (tables_of known.entry.claims.now)
+        (told_in tests.now) p.0 block.now.0 }
+    ensures no { result ≡ false → IsToTry (table_in known.entry.extracts.now) (tables_of known.entry.claims.now)
+        (told_in tests.now) p.0 block.now.0 → ⊥ }
 {
-    if first.is(block) || !extracts.has(block) {
+    if known.first.is(block) || !known.extracts.has(block) {
         return false;
     }
-    let Some(claim) = claims.claim(p, block) else {
+    let Some(claim) = known.claims.claim(p, block) else {
         return false;
     };
     if tests.has(block, &claim.hash) {
         return false;
     }
-    is_differing(claims, block)
+    is_differing(known.claims, block)
 }
 
 /// From a height up to which none of an entered peer's blocks is to be tested: the lowest above genesis and up to
@@ -117,28 +111,26 @@ fn is_to_try(
 /// nothing exactly where there is none. And up to where none is then.
 pub fn next_trial<H: HeaderStore>(
     store: &H,
-    extracts: &Extracts,
-    claims: &Claims,
+    known: Known,
     tests: &Tests,
     p: PeerNo,
-    first: &First,
     from: u32,
     common: u32,
 ) -> (u32, Option<Trial>)
     requires entered { IsSome (H.chain store.now p.0) }
     requires within { common ≤ length (own_of (H.chain store.now) p) }
-    requires tried { AreTried (table_in extracts.now) (tables_of claims.now)
+    requires tried { AreTried (table_in known.extracts.now) (tables_of known.claims.now)
         (told_in tests.now) p.0 (own_of (H.chain store.now) p) from }
-    ensures tried { AreTried (table_in extracts.now) (tables_of claims.now)
+    ensures tried { AreTried (table_in known.entry.extracts.now) (tables_of known.entry.claims.now)
         (told_in tests.now) p.0 (own_of (H.chain store.now) p) result.0 }
     ensures up { from ≤ result.0 }
     ensures low { result.0 ≤ max from common }
-    ensures next { IsNextTrial (table_in extracts.now) (tables_of claims.now)
+    ensures next { IsNextTrial (table_in known.entry.extracts.now) (tables_of known.entry.claims.now)
         (told_in tests.now) p.0 (own_of (H.chain store.now) p) common result.1 }
 {
     for height in from..common {
         let block = store.hash_at(p, height + 1);
-        if is_to_try(extracts, claims, tests, p, first, &block) {
+        if is_to_try(known, tests, p, &block) {
             let trial = Trial {
                 height: height + 1,
                 block,

@@ -52,9 +52,8 @@ impl Tried {
     pub fn put(&mut self, p: PeerNo, mark: u32)
         ensures { self.new ≡ slice_set self.old p.0 mark }
     {
-        let place = p.0 as usize;
-        if place < self.marks.len() {
-            self.marks[place] = mark;
+        if let Some(old) = self.marks.get_mut(p.0 as usize) {
+            *old = mark;
         }
     }
 

@@ -5,10 +5,10 @@ ghost use Rattle.cf_headers.specs.Heights.{hash_at};
 ghost use Rattle.cf_headers.specs.Store.{own_of};
 ghost use Rattle.cf_tables.specs.Wanting.{IsAbove, AreClaimed};
 
+use crate::known::Known;
 use cf_bytes::PeerNo;
-use cf_dispute::Claims;
 use cf_headers::HeaderStore;
-use cf_tables::{First, is_unclaimed};
+use cf_tables::is_unclaimed;
 
 /// What a peer is to be asked for next, by the lowest height.
 #[derive(Clone, Copy, Debug)]
@@ -24,28 +24,21 @@ pub enum Want {
 }
 
 /// How far a peer claims its blocks, from a height up to which it does, and no further than asked.
-pub fn climb_claimed<H: HeaderStore>(
-    store: &H,
-    claims: &Claims,
-    p: PeerNo,
-    first: &First,
-    from: u32,
-    most: u32,
-) -> u32
+pub fn climb_claimed<H: HeaderStore>(store: &H, known: Known, p: PeerNo, from: u32, end: u32) -> u32
     requires entered { IsSome (H.chain store.now p.0) }
-    requires within { most ≤ length (own_of (H.chain store.now) p) }
-    requires claimed { AreClaimed (tables_of claims.now) p.0 (own_of (H.chain store.now) p) from }
-    ensures claimed { AreClaimed (tables_of claims.now) p.0 (own_of (H.chain store.now) p) result }
+    requires within { end ≤ length (own_of (H.chain store.now) p) }
+    requires claimed { AreClaimed (tables_of known.claims.now) p.0 (own_of (H.chain store.now) p) from }
+    ensures claimed { AreClaimed (tables_of known.entry.claims.now) p.0 (own_of (H.chain store.now) p) result }
     ensures up { from ≤ result }
-    ensures low { result ≤ max from most }
-    ensures above { result < most → IsAbove (hash_at (own_of (H.chain store.now) p) (result + 1)) }
-    ensures next { result < most
-        → tables_of claims.now p.0 (hash_at (own_of (H.chain store.now) p) (result + 1)) ≡ None }
+    ensures low { result ≤ max from end }
+    ensures above { result < end → IsAbove (hash_at (own_of (H.chain store.now) p) (result + 1)) }
+    ensures next { result < end
+        → tables_of known.entry.claims.now p.0 (hash_at (own_of (H.chain store.now) p) (result + 1)) ≡ None }
 {
-    for height in from..most {
-        if is_unclaimed(claims, p, first, &store.hash_at(p, height + 1)) {
+    for height in from..end {
+        if is_unclaimed(known.claims, p, known.first, &store.hash_at(p, height + 1)) {
             return height;
         }
     }
-    from.max(most)
+    from.max(end)
 }

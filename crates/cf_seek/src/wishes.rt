@@ -12,15 +12,14 @@ ghost use Rattle.cf_seek.specs.Tried.{AreTried};
 ghost use Rattle.cf_tables.specs.Tests.{told_in};
 
 use crate::ends::claims_end;
-use crate::opens::Opens;
+use crate::known::Known;
 use crate::seek::sought_end;
 use crate::spans::{Wish, span_of};
 use crate::testing::next_trial;
 use crate::want::Want;
 use cf_bytes::{NoMemory, PeerNo};
-use cf_dispute::Claims;
 use cf_headers::HeaderStore;
-use cf_tables::{Extracts, First, Judged, Tests};
+use cf_tables::Tests;
 use std::alloc::Global;
 
 /// The question for what is wanted of a peer's blocks up to a height. It is about as many blocks in a row as may be
@@ -29,12 +28,8 @@ use std::alloc::Global;
 pub fn wish_for<H: HeaderStore>(
     alloc: Global,
     store: &H,
-    extracts: &Extracts,
-    claims: &Claims,
-    judged: &Judged,
-    opens: &Opens,
+    known: Known,
     p: PeerNo,
-    first: &First,
     want: Want,
     common: u32,
     tests: &Tests,
@@ -42,38 +37,38 @@ pub fn wish_for<H: HeaderStore>(
 ) -> Result<(u32, Wish), NoMemory>
     requires entered { IsSome (H.chain store.now p.0) }
     requires within { common ≤ length (own_of (H.chain store.now) p) }
-    requires wanted { IsSought (table_in extracts.now) (tables_of claims.now) (verdicts_in judged.now)
-        (opens_in opens.now) p.0 (own_of (H.chain store.now) p) common want }
-    requires tried { AreTried (table_in extracts.now) (tables_of claims.now)
+    requires wanted { IsSought (table_in known.extracts.now) (tables_of known.claims.now) (verdicts_in known.judged.now)
+        (opens_in known.opens.now) p.0 (own_of (H.chain store.now) p) common want }
+    requires tried { AreTried (table_in known.extracts.now) (tables_of known.claims.now)
         (told_in tests.now) p.0 (own_of (H.chain store.now) p) tried }
-    ensures tried { IfOk result (λ r. AreTried (table_in extracts.now) (tables_of claims.now) (told_in tests.now) p.0
-        (own_of (H.chain store.now) p) r.0) }
+    ensures tried { IfOk result (λ r. AreTried (table_in known.entry.extracts.now) (tables_of known.entry.claims.now)
+        (told_in tests.now) p.0 (own_of (H.chain store.now) p) r.0) }
     ensures up { IfOk result (λ r. tried ≤ r.0) }
     ensures low { IfOk result (λ r. r.0 ≤ max tried common) }
-    ensures wish { IfOk result (λ r. IsWish (table_in extracts.now) (tables_of claims.now) (verdicts_in judged.now)
-        (opens_in opens.now) p.0 (own_of (H.chain store.now) p) common r.1) }
-    ensures far { IfOk result (λ r. GoesFar (table_in extracts.now) (tables_of claims.now) (verdicts_in judged.now)
-        (opens_in opens.now) p.0 (own_of (H.chain store.now) p) common r.1) }
-    ensures trying { IfOk result (λ r. IsTrying (table_in extracts.now) (tables_of claims.now) (told_in tests.now)
-        p.0 (own_of (H.chain store.now) p) common r.1) }
+    ensures wish { IfOk result (λ r. IsWish (table_in known.entry.extracts.now) (tables_of known.entry.claims.now)
+        (verdicts_in known.entry.judged.now) (opens_in known.entry.opens.now) p.0 (own_of (H.chain store.now) p) common
+        r.1) }
+    ensures far { IfOk result (λ r. GoesFar (table_in known.entry.extracts.now) (tables_of known.entry.claims.now)
+        (verdicts_in known.entry.judged.now) (opens_in known.entry.opens.now) p.0 (own_of (H.chain store.now) p) common
+        r.1) }
+    ensures trying { IfOk result (λ r. IsTrying (table_in known.entry.extracts.now) (tables_of known.entry.claims.now)
+        (told_in tests.now) p.0 (own_of (H.chain store.now) p) common r.1) }
 {
     match want {
         Want::Nothing => {
-            let (tried, next) = next_trial(store, extracts, claims, tests, p, first, tried, common);
+            let (tried, next) = next_trial(store, known, tests, p, tried, common);
             match next {
                 Some(trial) => Ok((tried, Wish::Test(trial))),
                 None => Ok((tried, Wish::Nothing)),
             }
         }
         Want::Claims(start) => {
-            let end = claims_end(store, claims, p, first, start, common);
+            let end = claims_end(store, known, p, start, common);
             let span = span_of(alloc, store, p, start, end)?;
             Ok((tried, Wish::Claims(span)))
         }
         Want::Filters(start) => {
-            let end = sought_end(
-                store, extracts, claims, judged, opens, p, first, start, common,
-            );
+            let end = sought_end(store, known, p, start, common);
             let span = span_of(alloc, store, p, start, end)?;
             Ok((tried, Wish::Filters(span)))
         }

@@ -13,9 +13,9 @@ ghost use Rattle.cf_tracker.specs.Written.{IsWrittenHere, IsWrittenTo, IsWritten
 use crate::account::Account;
 use crate::bookmark::Bookmark;
 use cf_bytes::{Hash32, NoMemory, PeerNo};
-use cf_dispute::Claims;
 use cf_headers::HeaderStore;
-use cf_tables::{Extracts, First, Judged, is_done, kind_above};
+use cf_seek::Known;
+use cf_tables::{Extracts, is_done};
 
 // How far the written blocks are those of an entered peer's chain, from a height up to which they are.
 fn climb_written<H: HeaderStore>(
@@ -78,51 +78,31 @@ pub(crate) fn turn_to<H: HeaderStore>(
 }
 
 // Whether a block is settled.
-fn is_settled(
-    extracts: &Extracts,
-    claims: &Claims,
-    judged: &Judged,
-    first: &First,
-    block: &Hash32,
-) -> bool
+fn is_settled(known: Known, block: &Hash32) -> bool
     ensures yes { result ≡ true
-        → IsDoneAbove (table_in extracts.now) (tables_of claims.now) (verdicts_in judged.now) block.now.0 }
+        → IsDoneAbove (table_in known.entry.extracts.now) (tables_of known.entry.claims.now)
+        (verdicts_in known.entry.judged.now) block.now.0 }
     ensures no { result ≡ false
-        → IsDoneAbove (table_in extracts.now) (tables_of claims.now) (verdicts_in judged.now) block.now.0 → ⊥ }
+        → IsDoneAbove (table_in known.entry.extracts.now) (tables_of known.entry.claims.now)
+        (verdicts_in known.entry.judged.now) block.now.0 → ⊥ }
 {
-    is_done(kind_above(extracts, claims, judged, first, block))
+    is_done(known.kind_above(block))
 }
 
 // How far an entered peer's blocks above a height are settled, up to another.
-fn climb_settled<H: HeaderStore>(
-    store: &H,
-    extracts: &Extracts,
-    claims: &Claims,
-    judged: &Judged,
-    p: PeerNo,
-    first: &First,
-    from: u32,
-    most: u32,
-) -> u32
+fn climb_settled<H: HeaderStore>(store: &H, known: Known, p: PeerNo, from: u32, most: u32) -> u32
     requires entered { IsSome (H.chain store.now p.0) }
     requires within { most ≤ length (own_of (H.chain store.now) p) }
     requires low { from ≤ most }
-    ensures done { AreDone (table_in extracts.now) (tables_of claims.now) (verdicts_in judged.now)
-        (own_of (H.chain store.now) p) from result }
+    ensures done { AreDone (table_in known.entry.extracts.now) (tables_of known.entry.claims.now)
+        (verdicts_in known.entry.judged.now) (own_of (H.chain store.now) p) from result }
     ensures up { from ≤ result }
     ensures low { result ≤ most }
-    ensures next { result < most
-        → IsDoneAbove (table_in extracts.now) (tables_of claims.now) (verdicts_in judged.now)
-        (hash_at (own_of (H.chain store.now) p) (result + 1)) → ⊥ }
+    ensures next { result < most → IsDoneAbove (table_in known.entry.extracts.now) (tables_of known.entry.claims.now)
+        (verdicts_in known.entry.judged.now) (hash_at (own_of (H.chain store.now) p) (result + 1)) → ⊥ }
 {
     for height in from..most {
-        if !is_settled(
-            extracts,
-            claims,
-            judged,
-            first,
-            &store.hash_at(p, height + 1),
-        ) {
+        if !is_settled(known, &store.hash_at(p, height + 1)) {
             return height;
         }
     }
@@ -133,11 +113,8 @@ fn climb_settled<H: HeaderStore>(
 /// are looked at from another height on first, and the lower ones only once all of these are settled.
 pub(crate) fn settled_to<H: HeaderStore>(
     store: &H,
-    extracts: &Extracts,
-    claims: &Claims,
-    judged: &Judged,
+    known: Known,
     p: PeerNo,
-    first: &First,
     from: u32,
     before: u32,
     most: u32,
@@ -145,19 +122,17 @@ pub(crate) fn settled_to<H: HeaderStore>(
     requires entered { IsSome (H.chain store.now p.0) }
     requires within { most ≤ length (own_of (H.chain store.now) p) }
     requires low { from ≤ most }
-    ensures yes { most ≤ result
-        → AreDone (table_in extracts.now) (tables_of claims.now) (verdicts_in judged.now)
-        (own_of (H.chain store.now) p) from most }
-    ensures no { result < most
-        → AreDone (table_in extracts.now) (tables_of claims.now) (verdicts_in judged.now)
-        (own_of (H.chain store.now) p) from most → ⊥ }
+    ensures yes { most ≤ result → AreDone (table_in known.entry.extracts.now) (tables_of known.entry.claims.now)
+        (verdicts_in known.entry.judged.now) (own_of (H.chain store.now) p) from most }
+    ensures no { result < most → AreDone (table_in known.entry.extracts.now) (tables_of known.entry.claims.now)
+        (verdicts_in known.entry.judged.now) (own_of (H.chain store.now) p) from most → ⊥ }
 {
     let middle = before.max(from).min(most);
-    let high = climb_settled(store, extracts, claims, judged, p, first, middle, most);
+    let high = climb_settled(store, known, p, middle, most);
     if high < most {
         return high;
     }
-    let low = climb_settled(store, extracts, claims, judged, p, first, from, middle);
+    let low = climb_settled(store, known, p, from, middle);
     if low < middle {
         return low;
     }

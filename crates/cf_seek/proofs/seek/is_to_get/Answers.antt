@@ -6,4 +6,4 @@ use Rattle.cf_seek.proofs.seek.is_to_get.Goals as goal
 
 pub returns-then-not-is_due-clause-no : goal.returns-then-not-is_due-clause-no
 returns-then-not-is_due-clause-no c = λ e is.
-    not_to_fetch (table_in c.args.extracts.now) (tables_of c.args.claims.now) (verdicts_in c.args.judged.now) c.args.block.now.0 c.kind_above-kind.result (c.kind_above-kind.ensures.0 is.above) (c.is_due.ensures.no c.if-not-is_due.true) is.due
+    not_to_fetch (table_in c.args.known.extracts.now) (tables_of c.args.known.claims.now) (verdicts_in c.args.known.judged.now) c.args.block.now.0 c.kind_above-kind.result (c.kind_above-kind.ensures.0 is.above) (c.is_due.ensures.no c.if-not-is_due.true) is.due

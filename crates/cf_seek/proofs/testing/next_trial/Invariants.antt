@@ -7,5 +7,5 @@ use Rattle.cf_seek.proofs.testing.next_trial.Given as goal
 
 abbrev pub invariant-loop-height : goal.invariant-loop-height
 invariant-loop-height g l =
-    AreTried (table_in l.extracts) (tables_of l.claims) (told_in l.tests) l.p.0
+    AreTried (table_in l.known.extracts.now) (tables_of l.known.claims.now) (told_in l.tests) l.p.0
     (own_of (g.H.HeaderStore.chain l.store) l.p) l.height

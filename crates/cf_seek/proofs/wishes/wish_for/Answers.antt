@@ -19,7 +19,7 @@ pub span_of-requires-clause-apart : goal.span_of-requires-clause-apart
 span_of-requires-clause-apart g c =
     let want = rw c.in-Claims.is at c.requires.wanted in
     let last = c.claims_end-end.ensures.new c.claims_end-end.result c.claims_end-end.ensures.up (omega arith) in
-    apart_claims (tables_of c.args.claims.now) c.args.p.0 _ c.in-Claims.start _ want.2 last.0 last.1
+    apart_claims (tables_of c.args.known.claims.now) c.args.p.0 _ c.in-Claims.start _ want.2 last.0 last.1
 
 pub sought_end-end-requires : goal.sought_end-end-requires
 sought_end-end-requires g c =
@@ -45,8 +45,8 @@ returns-in-Block-clause-wish g c =
 
 pub returns-in_ok-span-in-Claims-clause-far : goal.returns-in_ok-span-in-Claims-clause-far
 returns-in_ok-span-in-Claims-clause-far g c =
-    far_claims (table_in c.args.extracts.now) (tables_of c.args.claims.now) (verdicts_in c.args.judged.now)
-    (opens_in c.args.opens.now) c.args.p.0 (own_of (g.H.HeaderStore.chain c.args.store.now) c.args.p) c.args.common
+    far_claims (table_in c.args.known.extracts.now) (tables_of c.args.known.claims.now) (verdicts_in c.args.known.judged.now)
+    (opens_in c.args.known.opens.now) c.args.p.0 (own_of (g.H.HeaderStore.chain c.args.store.now) c.args.p) c.args.common
     _ _ _ c.in_ok-span-in-Claims.ensures c.claims_end-end.ensures.new c.claims_end-end.ensures.last
 
 pub returns-in_ok-span-in-Claims-clause-wish : goal.returns-in_ok-span-in-Claims-clause-wish

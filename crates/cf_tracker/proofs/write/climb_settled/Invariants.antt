@@ -8,6 +8,6 @@ use Rattle.cf_tracker.proofs.write.climb_settled.Given as goal
 
 abbrev pub invariant-loop-height : goal.invariant-loop-height
 invariant-loop-height g l = record {
-  done : AreDone (table_in l.extracts) (tables_of l.claims) (verdicts_in l.judged) (own_of (g.H.HeaderStore.chain l.store) l.p) l.from l.height;
+  done : AreDone (table_in l.known.extracts.now) (tables_of l.known.claims.now) (verdicts_in l.known.judged.now) (own_of (g.H.HeaderStore.chain l.store) l.p) l.from l.height;
   up : l.from ≤ l.height;
 }
