@@ -82,7 +82,7 @@ pub record EndsBy (trace : Bool) (scripts : List (List ℕ)) (text : List ℕ) (
   pub written : after ≡ with_more before (with_trace trace lines (joined texts))
 
 -- The follow theorem for the program. Whatever peers send: where the chain of one of them grows as it answers, no other connected peer has shown another
--- chain as long as the one that it told of last, and nothing is open when the run is over, then what was written last is exactly the history that a plain
+-- chain at least as long as the one that it told of last, and nothing is open when the run is over, then what was written last is exactly the history that a plain
 -- scan of every block of that chain gives for the watched scripts, with its tip; no answer comes but for the end of the deliveries, a sink that fails, want of
 -- memory, or a record that can't be written; and that peer is never closed, of which only the answer NoMemory says nothing. Of whatever is answered else the
 -- run went by the rules as far as it came.

@@ -98,7 +98,7 @@ pub record KeptOnce (status : Status) (recorded trace : Bool) (scripts names : L
   pub ran : has_run status ≡ true → Ran status trace scripts names before after log
   pub unrecorded : status ≡ FileFault → (log ≡ []) ⊎ WasFollowed (once scripts) names log
 
--- what is promised of a run, with the scripts of the watch file, which was there, and was read before anything passed
+-- what is promised of a run, with the scripts of the watch file, which was there wherever a run was made or anything has passed
 pub record KeptOverWatch (status : Status) (files : Option Named) (watch : List ℕ) (log : Log) (Kept : List (List ℕ) → Type 0) : Type 0 where
   pub scripts : List (List ℕ)
   pub watched : has_run status ≡ true → IsWatchFile files watch scripts

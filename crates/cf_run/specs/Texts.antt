@@ -25,7 +25,7 @@ abbrev pub joined : List (List ℕ) → List ℕ
 joined [] = []
 joined (text ∷ before) = joined before ++ text
 
--- the texts of all moments at rest were put whole, that of the last moment among them, each unless it is the last one, and no others
+-- the texts of all moments at rest were put whole, that of the last moment among them, each unless it is the one that was put before it, and no others
 pub record HasPut (watch : List (List ℕ)) (log : Log) (before now : Option (List ℕ)) : Type 0 where
   pub texts : List (List ℕ)
   pub puts : ArePut watch log texts
@@ -73,7 +73,7 @@ pub record HavePut (watch : List (List ℕ)) (last : Option (String Global)) (t 
   pub puts : PutBefore watch texts t
   pub taken : now ≡ with_more before (joined texts)
 
--- a text was put, unless it is the last one
+-- a text was put, unless it is the one that was put before it
 pub record PutsOne (text : List ℕ) (before : List (List ℕ)) (last : Option (String Global)) (old new : Option (List ℕ)) : Type 0 where
   pub newest : IsLast last (put text before)
   pub taken : (first : Option (List ℕ)) → old ≡ with_more first (joined before) → new ≡ with_more first (joined (put text before))
