@@ -262,13 +262,14 @@ stayed_kept status recorded trace scripts names before after log s theorem = rec
 
 -- nothing of it was given up
 pub over_given : (o : Option Log) (status : Status) (scripts names : List (List ℕ)) (before after : Option (List ℕ)) (old new : ℕ) → is_over status ≡ true
-    → IfSome o (λ log. GivenUp status scripts names before after old new log)
-over_given None status scripts names before after old new over = tt
-over_given (Some log) status scripts names before after old new over = record {
+    → new ≡ old → IfSome o (λ log. GivenUp status scripts names before after old new log)
+over_given None status scripts names before after old new over same = tt
+over_given (Some log) status scripts names before after old new over same = record {
   some = λ off. absurd (both_ways (is_over status) off over);
   tried = λ off enough. absurd (both_ways (is_over status) off over);
   refused = λ is. absurd (false≢true (sym (ap is_over is) ∙ over));
   unrecorded = λ is. absurd (false≢true (sym (ap is_over is) ∙ over));
+  tells = inl same;
 }
 
 -- all its texts were written, by what takes them
@@ -348,6 +349,7 @@ failed_given (Some log) scripts names before after old new but risen = record {
   tried = λ off enough. inr (but, risen);
   refused = λ is. (but, risen);
   unrecorded = λ is. cc;
+  tells = inr but;
 }
 
 -- memory was wanting
@@ -370,15 +372,23 @@ spent_told None scripts names recorded before after put = tt
 spent_told (Some log) scripts names recorded before after put =
     spent_kept recorded false scripts names before after log (some_begun scripts before after log put)
 
-pub spent_given : (o : Option Log) (scripts names : List (List ℕ)) (before after : Option (List ℕ)) (old new : ℕ)
-    → IfSome o (λ log. HasPutSome scripts log before after) → IfSome o (λ log. GivenUp NoMemory scripts names before after old new log)
-spent_given None scripts names before after old new put = tt
-spent_given (Some log) scripts names before after old new put = record {
+spent_so : (scripts names : List (List ℕ)) (before after : Option (List ℕ)) (old new : ℕ) (log : Log)
+    → HasPutSome scripts log before after → (new ≡ old) ⊎ HasPutBut scripts log before after
+    → GivenUp NoMemory scripts names before after old new log
+spent_so scripts names before after old new log put tells = record {
   some = λ off. put;
   tried = λ off enough. absurd (enough refl);
   refused = λ is. cc;
   unrecorded = λ is. cc;
+  tells = tells;
 }
+
+pub spent_given : (o : Option Log) (scripts names : List (List ℕ)) (before after : Option (List ℕ)) (old new : ℕ)
+    → new ≡ old → IfSome o (λ log. HasPutSome scripts log before after)
+    → IfSome o (λ log. GivenUp NoMemory scripts names before after old new log)
+spent_given None scripts names before after old new same put = tt
+spent_given (Some log) scripts names before after old new same put =
+    spent_so scripts names before after old new log put (inl same)
 
 -- before anything was written
 pub silent_told : (o : Option Log) (scripts names : List (List ℕ)) (recorded trace : Bool) (first told before : Option (List ℕ))
@@ -413,16 +423,26 @@ kept_begun status recorded trace scripts names before after log kept = by (is_ov
   by false off = kept.begun off
 
 -- and what was put of them, whatever becomes of the record
-pub kept_some : (o : Option Log) (status : Status) (recorded : Bool) (scripts names : List (List ℕ)) (before after : Option (List ℕ)) (old new : ℕ)
-    → ((b : Bool) → IfSome o (λ log. KeptOn status b false scripts names before after log))
-    → IfSome o (λ log. GivenUp status scripts names before after old new log) → IfSome o (λ log. HasPutSome scripts log before after)
-kept_some None status recorded scripts names before after old new kept given = tt
-kept_some (Some log) status recorded scripts names before after old new kept given = by (is_over status) refl where
+kept_some : (status : Status) (recorded : Bool) (scripts names : List (List ℕ)) (before after : Option (List ℕ))
+    (old new : ℕ) (log : Log) → KeptOn status recorded false scripts names before after log
+    → GivenUp status scripts names before after old new log → HasPutSome scripts log before after
+kept_some status recorded scripts names before after old new log kept given = by (is_over status) refl where
   by : (b : Bool) → is_over status ≡ b → HasPutSome scripts log before after
   by true over =
-      let s = (kept recorded).ran over in
+      let s = kept.ran over in
       inl (record { texts = s.texts; puts = inr s.puts; taken = s.written })
   by false off = given.some off
+
+-- the same where no memory is found then
+pub spent_behind : (o : Option Log) (status : Status) (recorded : Bool) (scripts names : List (List ℕ))
+    (before after : Option (List ℕ)) (old new : ℕ)
+    → ((b : Bool) → IfSome o (λ log. KeptOn status b false scripts names before after log))
+    → IfSome o (λ log. GivenUp status scripts names before after old new log)
+    → IfSome o (λ log. GivenUp NoMemory scripts names before after old new log)
+spent_behind None status recorded scripts names before after old new kept given = tt
+spent_behind (Some log) status recorded scripts names before after old new kept given =
+    spent_so scripts names before after old new log
+    (kept_some status recorded scripts names before after old new log (kept recorded) given) given.tells
 
 -- where memory was found it came to its end, or a text of it could not be put
 refused_by : (status : Status) → IsOfRun status → was_refused status ≡ false → is_over status ≡ false → status ≢ NoMemory → status ≡ OutFault
@@ -454,8 +474,9 @@ stayed_or_refused status recorded scripts names before after old new log is begu
 -- what was put of them then
 given_by : (scripts names : List (List ℕ)) (before after : Option (List ℕ)) (old new : ℕ) (log : Log)
     → ((ended : Status) × Stayed ended false scripts names before after log) ⊎ (HasPutBut scripts log before after × HasRisen old new)
+    → (new ≡ old) ⊎ HasPutBut scripts log before after
     → GivenUp FileFault scripts names before after old new log
-given_by scripts names before after old new log (inl stayed) =
+given_by scripts names before after old new log (inl stayed) tells =
     let s = stayed.1 in
     let put : HasPut scripts log before after = record { texts = s.texts; puts = s.puts; taken = s.written } in
     record {
@@ -463,12 +484,14 @@ given_by scripts names before after old new log (inl stayed) =
       tried = λ off enough. inl put;
       refused = λ is. cc;
       unrecorded = λ is. inr (inl stayed);
+      tells = tells;
     }
-given_by scripts names before after old new log (inr but) = record {
+given_by scripts names before after old new log (inr but) tells = record {
   some = λ off. inr but.0;
   tried = λ off enough. inr but;
   refused = λ is. cc;
   unrecorded = λ is. inr (inr but);
+  tells = tells;
 }
 
 pub unrecorded_given : (o : Option Log) (status : Status) (recorded : Bool) (scripts names : List (List ℕ)) (before after : Option (List ℕ)) (old new : ℕ)
@@ -480,6 +503,7 @@ unrecorded_given None status recorded scripts names before after old new is begu
 unrecorded_given (Some log) status recorded scripts names before after old new is begun enough kept given =
     given_by scripts names before after old new log
     (stayed_or_refused status recorded scripts names before after old new log is begun enough (kept recorded) given)
+    given.tells
 
 -- the record could not be written
 pub unrecorded_on : (o : Option Log) (status : Status) (recorded : Bool) (scripts names : List (List ℕ)) (before after : Option (List ℕ))
@@ -531,6 +555,7 @@ early_given status scripts names b n log file none = record {
   tried = λ off enough. inl (new_all scripts log b none);
   refused = λ is. absurd (not_run status OutFault (no_run status file) refl is);
   unrecorded = λ is. inl none;
+  tells = inl refl;
 }
 
 -- the same of what `follow` puts, for wires that are new, which may tell no log

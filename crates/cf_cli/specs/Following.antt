@@ -60,6 +60,8 @@ pub record BegunTexts (trace : Bool) (scripts : List (List ℕ)) (before after :
 -- delivery was put whole, and at most a beginning of what is due now. Unless memory was wanting, all was put whole, the text of the last moment too, or no more
 -- than a beginning of the text that is due, and the sink has failed more often than before; with OutFault the latter. With FileFault either nothing has passed,
 -- or a run came to its end, by the log, with all its texts written, or no more than such a beginning was put, and the sink has failed more often than before.
+-- Whatever is answered: where the count of the sink's failures isn't as it was, the run stopped at a text that is due,
+-- of which no more than a beginning was put. So no run went on behind a failure to a moment at which no text is due.
 pub record GivenUp (status : Status) (scripts names : List (List ℕ)) (before after : Option (List ℕ)) (old new : ℕ) (log : Log) : Type 0 where
   pub some : is_over status ≡ false → HasPutSome scripts log before after
   pub tried : is_over status ≡ false → status ≢ NoMemory
@@ -67,6 +69,7 @@ pub record GivenUp (status : Status) (scripts names : List (List ℕ)) (before a
   pub refused : status ≡ OutFault → HasPutBut scripts log before after × HasRisen old new
   pub unrecorded : status ≡ FileFault → (log ≡ [])
       ⊎ (((ended : Status) × Stayed ended false scripts names before after log) ⊎ (HasPutBut scripts log before after × HasRisen old new))
+  pub tells : (new ≡ old) ⊎ HasPutBut scripts log before after
 
 -- a peer whose chain grows up to these blocks, over a log whose strings, with those of the blocks and of their filters, don't clash
 pub record Grows (log : Log) (p : ℕ) (blocks : List Block) (first : ℕ) : Type 0 where

@@ -10,7 +10,7 @@ use Rattle.cf_answers.specs.Statuses.{was_refused}
 use Rattle.cf_cli.proofs.Ends.{ends_stay, over_failed, over_recorded}
 use Rattle.cf_cli.proofs.Plays.{new_dialled, new_unfailed, versions_so}
 use Rattle.cf_cli.proofs.Records.{begun_records}
-use Rattle.cf_cli.proofs.Stays.{begun_by, counts_behind, counts_on, early_tallied_on, fresh_told, kept_some, new_put_told, spent_given, spent_on, spent_tallied_on, tallied_from, unrecorded_given, unrecorded_on}
+use Rattle.cf_cli.proofs.Stays.{begun_by, counts_behind, counts_on, early_tallied_on, fresh_told, new_put_told, spent_behind, spent_given, spent_on, spent_tallied_on, tallied_from, unrecorded_given, unrecorded_on}
 use Rattle.cf_cli.proofs.following.follow_and_record.Goals as goal
 
 -- ---- no memory is found before the run
@@ -21,7 +21,7 @@ returns-in_default-clause-kept g c =
 
 pub returns-in_default-clause-given_up : goal.returns-in_default-clause-given_up
 returns-in_default-clause-given_up g c =
-    spent_given (g.W.Wires.told c.args.wires.now).log c.args.watch (names_in c.args.names.now) _ _ _ _
+    spent_given (g.W.Wires.told c.args.wires.now).log c.args.watch (names_in c.args.names.now) _ _ _ _ refl
     (new_put_told (g.W.Wires.told c.args.wires.now).log c.args.watch (g.O.Sink.written c.args.out.now) c.requires.fresh.content)
 
 pub returns-in_default-clause-tallied : goal.returns-in_default-clause-tallied
@@ -48,9 +48,9 @@ returns-in-NoMemory-clause-kept g c =
 
 pub returns-in-NoMemory-clause-given_up : goal.returns-in-NoMemory-clause-given_up
 returns-in-NoMemory-clause-given_up g c =
-    spent_given (g.W.Wires.told c.follow_live-status.new.wires).log c.args.watch (names_in c.args.names.now) _ _ _ _
-    (kept_some (g.W.Wires.told c.follow_live-status.new.wires).log c.follow_live-status.result (is_some c.args.log_file.now) c.args.watch (names_in c.args.names.now) _ _ _ _
-    c.follow_live-status.ensures.kept c.follow_live-status.ensures.given_up)
+    spent_behind (g.W.Wires.told c.follow_live-status.new.wires).log c.follow_live-status.result
+    (is_some c.args.log_file.now) c.args.watch (names_in c.args.names.now) _ _ _ _
+    c.follow_live-status.ensures.kept c.follow_live-status.ensures.given_up
 
 pub returns-in-NoMemory-clause-tallied : goal.returns-in-NoMemory-clause-tallied
 returns-in-NoMemory-clause-tallied g c = spent_tallied_on NoMemory _ refl tt c.follow_live-status.ensures.wires
@@ -77,9 +77,9 @@ returns-in-Err-NoMemory-clause-kept g c =
 
 pub returns-in-Err-NoMemory-clause-given_up : goal.returns-in-Err-NoMemory-clause-given_up
 returns-in-Err-NoMemory-clause-given_up g c =
-    spent_given (g.W.Wires.told c.follow_live-status.new.wires).log c.args.watch (names_in c.args.names.now) _ _ _ _
-    (kept_some (g.W.Wires.told c.follow_live-status.new.wires).log c.follow_live-status.result (is_some c.args.log_file.now) c.args.watch (names_in c.args.names.now) _ _ _ _
-    c.follow_live-status.ensures.kept c.follow_live-status.ensures.given_up)
+    spent_behind (g.W.Wires.told c.follow_live-status.new.wires).log c.follow_live-status.result
+    (is_some c.args.log_file.now) c.args.watch (names_in c.args.names.now) _ _ _ _
+    c.follow_live-status.ensures.kept c.follow_live-status.ensures.given_up
 
 pub returns-in-Err-NoMemory-clause-tallied : goal.returns-in-Err-NoMemory-clause-tallied
 returns-in-Err-NoMemory-clause-tallied g c = spent_tallied_on NoMemory _ refl tt c.follow_live-status.ensures.wires

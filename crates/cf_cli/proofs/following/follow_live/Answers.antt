@@ -20,7 +20,9 @@ returns-in-Ok-ends_of-clause-kept g c =
 
 pub returns-in-Ok-ends_of-clause-given_up : goal.returns-in-Ok-ends_of-clause-given_up
 returns-in-Ok-ends_of-clause-given_up g c =
+    let same : c.follow_over.new.texts.sink.now ≡ c.out-1.given.0 = search rules in
     over_given (g.W.Wires.told c.follow_over.new.wires).log c.status_of.result c.args.watch (names_in c.args.names.now) _ _ _ _ c.status_of.ensures.over
+    (rw (c.new-texts.ensures.same, same) at c.in-Ok.ensures.put.fine)
 
 pub returns-in-Ok-ends_of-clause-tallied : goal.returns-in-Ok-ends_of-clause-tallied
 returns-in-Ok-ends_of-clause-tallied g c =
@@ -48,7 +50,9 @@ returns-in_default-clause-kept g c =
 pub returns-in_default-clause-given_up : goal.returns-in_default-clause-given_up
 returns-in_default-clause-given_up g c =
     let same : c.follow_over.new.texts.sink.now ≡ c.out-1.given.0 = search rules in
-    spent_given (g.W.Wires.told c.follow_over.new.wires).log c.args.watch (names_in c.args.names.now) _ _ _ _ (some_put_told (g.W.Wires.told c.follow_over.new.wires).log c.args.watch _ _ (rw (c.new-texts.ensures.same, same) at c.in-Ok.ensures.put.put))
+    spent_given (g.W.Wires.told c.follow_over.new.wires).log c.args.watch (names_in c.args.names.now) _ _ _ _
+    (rw (c.new-texts.ensures.same, same) at c.in-Ok.ensures.put.fine)
+    (some_put_told (g.W.Wires.told c.follow_over.new.wires).log c.args.watch _ _ (rw (c.new-texts.ensures.same, same) at c.in-Ok.ensures.put.put))
 
 pub returns-in-Err-NoMemory-clause-kept : goal.returns-in-Err-NoMemory-clause-kept
 returns-in-Err-NoMemory-clause-kept g c =
@@ -61,7 +65,9 @@ pub returns-in-Err-NoMemory-clause-given_up : goal.returns-in-Err-NoMemory-claus
 returns-in-Err-NoMemory-clause-given_up g c =
     let same : c.follow_over.new.texts.sink.now ≡ c.out-1.given.0 = search rules in
     let so = rw c.in-Err-NoMemory.field-0-is at c.in-Err-NoMemory.ensures.cut in
-    spent_given (g.W.Wires.told c.follow_over.new.wires).log c.args.watch (names_in c.args.names.now) _ _ _ _ (some_so_told (g.W.Wires.told c.follow_over.new.wires).log c.args.watch _ _ (rw (c.new-texts.ensures.same, same) at so.put))
+    spent_given (g.W.Wires.told c.follow_over.new.wires).log c.args.watch (names_in c.args.names.now) _ _ _ _
+    (rw (c.new-texts.ensures.same, same) at so.fine)
+    (some_so_told (g.W.Wires.told c.follow_over.new.wires).log c.args.watch _ _ (rw (c.new-texts.ensures.same, same) at so.put))
 
 pub returns-in_default-clause-tallied : goal.returns-in_default-clause-tallied
 returns-in_default-clause-tallied g c = spent_tallied_on NoMemory _ refl tt c.follow_over.ensures.wires
