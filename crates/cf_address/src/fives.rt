@@ -1,6 +1,6 @@
 //! Bits in groups of another size.
 ghost use Rattle.std.specs.Prelude.{◌≡◌, ◌++◌, ◌<◌, ◌≤◌, ◌^◌, ◌+◌, ◌-◌, ◌*◌, ◌/◌, ◌⊎◌, MatchBool, IfOk};
-ghost use Rattle.cf_bytes.specs.Bits.{bits_of};
+ghost use Rattle.cf_bytes.specs.{bits_of};
 ghost use Rattle.cf_address.specs.Bits.{all_bits, AreBelow, AreFivesOf};
 ghost use Rattle.cf_address.specs.Steps.{GivesBytes};
 

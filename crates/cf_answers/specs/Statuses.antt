@@ -58,7 +58,3 @@ is_over (NoNonce height) = false
 is_over (NoHeight tip) = false
 is_over (NotThere txid) = false
 is_over (NotAddress cause) = false
-
-abbrev pub is_no_peers : Status → Bool
-is_no_peers (NoPeers ends) = true
-is_no_peers status = false

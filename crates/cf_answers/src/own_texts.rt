@@ -1,7 +1,7 @@
 //! What the program says of itself.
 ghost use Rattle.std.specs.Prelude.{◌≡◌, drop, true, false, None, Some, option_map, string_bytes};
 ghost use Rattle.std.specs.List.{list_any};
-ghost use Rattle.cf_input.specs.Words.{is_help_word, is_version_word};
+ghost use Rattle.cf_input.specs.{is_help_word, is_version_word};
 
 use cf_input::{is_help, is_version};
 

@@ -1,8 +1,7 @@
 //! The hash of a transaction, which is fed to the hasher field by field, so that no memory is taken.
 ghost use Rattle.std.specs.Prelude.{◌≡◌};
 ghost use Rattle.std.specs.List.{flat_map};
-ghost use Rattle.cf_bytes.specs.Compact.{compact};
-ghost use Rattle.cf_bytes.specs.Lists.{counted_bytes};
+ghost use Rattle.cf_bytes.specs.{compact, counted_bytes};
 ghost use Rattle.cf_block.specs.Fed.{Fed};
 ghost use Rattle.cf_block.specs.Tx.{input_spelling, output_spelling, tx_spelling, txid_of};
 

@@ -1,6 +1,6 @@
 //! Headers, their bytes and their hashes.
 ghost use Rattle.std.specs.Prelude.{◌≡◌, ◌++◌, IfOk, OnOk, OnErr};
-ghost use Rattle.cf_bytes.specs.Cut.{Reads};
+ghost use Rattle.cf_bytes.specs.{Reads};
 ghost use Rattle.cf_block.specs.Header.{IsHeader, header_spelling, header_fields_at, header_at, block_hash_of, genesis_header as first_header};
 
 use crate::fault::{BlockFault, BlockFaultKind};

@@ -6,7 +6,7 @@ ghost use Rattle.cf_block.specs.declared.tx.Block.{Block};
 ghost use Rattle.cf_block.specs.Header.{IsHeader, header_spelling, header_at, block_hash_of, genesis_header};
 ghost use Rattle.cf_block.specs.Genesis.{first_tx, first_block, first_tx_bytes, genesis_hash};
 ghost use Rattle.cf_block.specs.Tx.{IsTx, IsBlock, tx_spelling, block_spelling};
-ghost use Rattle.cf_bytes.specs.Cut.{IsBytes};
+ghost use Rattle.cf_bytes.specs.{IsBytes};
 ghost use Rattle.cf_block.specs.Reading.{tx_at, block_at};
 ghost use Rattle.cf_block.specs.Stored.{IsStored, stored_block_at};
 ghost use Rattle.cf_block.specs.Merkle.{hashed, NoClash};

@@ -1,6 +1,6 @@
 //! Merkle roots on a lent level.
 ghost use Rattle.std.specs.Prelude.{◌≡◌, ◌+◌, ◌*◌, ◌/◌, ◌++◌, ◌<◌, ◌≤◌, ℕ, length, take, map};
-ghost use Rattle.cf_bytes.specs.Hash.{hash_of};
+ghost use Rattle.cf_bytes.specs.{hash_of};
 ghost use Rattle.cf_block.specs.Merkle.{next_level, has_twins as twins_of, merkle_root_of, mutated};
 ghost use Rattle.cf_block.specs.Views.{bytes_of};
 

@@ -1,9 +1,7 @@
 //! The reader of blocks as files keep them, with witnesses or without.
 ghost use Rattle.std.specs.Prelude.{◌≡◌, false, [], IfOk, length};
 ghost use Rattle.std.specs.List.{AllByRecursion};
-ghost use Rattle.cf_bytes.specs.Cut.{Reads, Gives, bytes_at};
-ghost use Rattle.cf_bytes.specs.Compact.{compact_at};
-ghost use Rattle.cf_bytes.specs.Lists.{list_at};
+ghost use Rattle.cf_bytes.specs.{Reads, Gives, bytes_at, compact_at, list_at};
 ghost use Rattle.cf_block.specs.Tx.{IsTx, IsBlock};
 ghost use Rattle.cf_block.specs.Reading.{of_cut, script_at, GivesAll};
 ghost use Rattle.cf_block.specs.Stored.{is_extended, stack_at, witness_at, extended_at, stored_tx_at, stored_fields_at, stored_block_at, IsStored, passed, seen_stack_at, seen_item};

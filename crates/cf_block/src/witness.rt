@@ -2,7 +2,7 @@
 ghost use Rattle.std.specs.Prelude.{◌≡◌, ◌++◌, [], ◌∷◌, length, OnOk, OnErr};
 ghost use Rattle.std.specs.Int.{w32, to_le_bytes, cast_unsigned};
 ghost use Rattle.std.specs.List.{flat_map};
-ghost use Rattle.cf_bytes.specs.Compact.{compact};
+ghost use Rattle.cf_bytes.specs.{compact};
 ghost use Rattle.cf_block.specs.Tx.{input_spelling, output_spelling};
 ghost use Rattle.cf_block.specs.Stored.{stack_spelling, extended_spelling};
 

@@ -1,7 +1,7 @@
 //! The writers of transactions and blocks.
 ghost use Rattle.std.specs.Prelude.{◌≡◌, ◌++◌, OnOk, OnErr};
 ghost use Rattle.std.specs.List.{flat_map};
-ghost use Rattle.cf_bytes.specs.Lists.{counted_bytes};
+ghost use Rattle.cf_bytes.specs.{counted_bytes};
 ghost use Rattle.cf_block.specs.Tx.{input_spelling, output_spelling, tx_spelling, block_spelling};
 
 use crate::header::write_header;

@@ -1,5 +1,5 @@
 //! Hashes of items, codes of values, and filters.
-ghost use Rattle.cf_golomb.specs.Code.{HasSpelling};
+ghost use Rattle.cf_golomb.specs.{HasSpelling};
 
 use crate::fields::{bytes_in, hash_in, put_digits, put_word};
 use cf_block::{Block, Script, block_hash, parse_block};

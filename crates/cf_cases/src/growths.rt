@@ -1,6 +1,6 @@
 //! Conversations with a server whose chain grows.
 ghost use Rattle.std.specs.Prelude.{◌≡◌, Some};
-ghost use Rattle.cf_conn.specs.MemoryConn.{Writes};
+ghost use Rattle.cf_conn.specs.{Writes};
 
 use crate::conversations::{MOMENT, NONCE, conn_in, index_in, shown as bytes_shown};
 use cf_bytes::{Failed, Sink};
@@ -28,7 +28,7 @@ struct Around<R: Wait + Copy + Drop> {
 }
 
 impl<R: Wait + Copy + Drop> Model for Around<R> {
-    ghost use Rattle.cf_conn.specs.MemoryConn.{BothWays};
+    ghost use Rattle.cf_conn.specs.{BothWays};
 
     ghost Value = { BothWays };
 

@@ -1,7 +1,7 @@
 //! Peers in memory: a peer is told as `honest=CHAIN`, `silent=CHAIN` or `omits:HEX:HEX=CHAIN`, with the scripts that
 //! its filters leave out.
 ghost use Rattle.std.specs.Prelude.{◌≡◌, ◌<◌, [], length};
-ghost use Rattle.cf_played.specs.Told.{log_of, peers_of};
+ghost use Rattle.cf_played.specs.{log_of, peers_of};
 
 use crate::chains::chain_in;
 use crate::fields::{bytes_in, put_digits, put_word};

@@ -1,6 +1,6 @@
 //! Whole calls of the program in memory.
 ghost use Rattle.std.specs.Prelude.{◌≡◌, [], IfSome, false};
-ghost use Rattle.cf_wires.specs.Memory.{log_of, finished_of};
+ghost use Rattle.cf_wires.specs.{log_of, finished_of};
 
 use crate::chains::chain_in;
 use crate::fields::{bytes_in, file_in, numbers_in, texts_in};

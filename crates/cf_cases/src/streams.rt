@@ -1,5 +1,5 @@
 //! Streams of frames.
-ghost use Rattle.cf_frame.specs.Frame.{IsFrame};
+ghost use Rattle.cf_frame.specs.{IsFrame};
 
 use crate::fields::{bytes_in, digits_of};
 use cf_frame::{Frame, Framer, encode};

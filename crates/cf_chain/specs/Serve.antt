@@ -81,7 +81,7 @@ abbrev pub cfilters_reply : ℕ → Option ℕ → List Block → List Msg
 cfilters_reply start None blocks = []
 cfilters_reply start (Some stop) blocks = map cfilter_of (filters_between start stop blocks)
 
--- a filter header that is there
+-- a filter header that is there, and 32 zero bytes where there is none
 abbrev pub header_or_zeros : Option Filtered → Hash32
 header_or_zeros None = record { 0 = replicate 32 0 }
 header_or_zeros (Some f) = record { 0 = f.header }

@@ -50,7 +50,7 @@ around files written faults wires tape players link = record {
 
 -- all that is promised of `sync`: the sync theorem over the log of the wires, where they tell it; what holds over any wires; that the names which were
 -- dialled are the first of those given; and the files
-pub record IsSynced (status : Status) (turns : ℕ) (file : Option (List ℕ)) (watch : List ℕ) (peers : List (List ℕ)) (before after : Around) : Type 0 where
+pub record IsSyncing (status : Status) (turns : ℕ) (file : Option (List ℕ)) (watch : List ℕ) (peers : List (List ℕ)) (before after : Around) : Type 0 where
   pub kept : IfSome after.wires.log (λ log. KeptOver status (is_some file) false before.files watch peers before.written after.written log)
   pub tallied : Tallied status turns (length peers) before.wires after.wires
   pub dialled : HasDialled peers after.wires
@@ -73,7 +73,7 @@ pub record IsFollowing (status : Status) (turns : ℕ) (file : Option (List ℕ)
 -- what a command does that is answered so, at this moment and with this random number, by what is around it before and after
 abbrev pub Does : Command → Status → ℤ → ℕ → Around → Around → Type 0
 Does (Replay follow trace watch session) status moment nonce before after = IsReplaying follow status trace watch session before after
-Does (Sync turns workers file watch peers) status moment nonce before after = IsSynced status turns file watch peers before after
+Does (Sync turns workers file watch peers) status moment nonce before after = IsSyncing status turns file watch peers before after
 Does (Follow turns workers file watch peers) status moment nonce before after = IsFollowing status turns file watch peers before after
 Does (Scan file watch) status moment nonce before after = IsScanned status before.files watch file before.written after.written
 Does (Filter file height) status moment nonce before after = IsFiltered status before.files file height before.written after.written

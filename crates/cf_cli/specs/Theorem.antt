@@ -86,8 +86,8 @@ pub record Serves (log : Log) (p : ℕ) (blocks : List Block) : Type 0 where
   pub apart : NoHashClash (IsHashed log blocks)
 
 -- The sync theorem for the program. Whatever peers send: where one of them answers as the serving machine of a chain of blocks does, and no
--- connected peer has shown another chain as long, a run that answers Done has written exactly the history that a plain scan of every block of
--- that chain gives for the watched scripts, with its tip; it answers Done as soon as no request is open, unless the sink fails, memory is
+-- connected peer has shown another chain at least as long, a run that answers Done has written exactly the history that a plain scan of every block of
+-- that chain gives for the watched scripts, with its tip; it answers Done where no request is open at the end, unless the sink fails, memory is
 -- wanting, or the record that was asked for can't be written; and it never closes that peer, of which only the answer NoMemory says nothing.
 pub record KeptOnce (status : Status) (recorded trace : Bool) (scripts names : List (List ℕ)) (before after : Option (List ℕ)) (log : Log) : Type 0 where
   pub writes : (p : ℕ) (blocks : List Block) → Serves log p blocks → ShowsNoOther log blocks → status ≡ Done → trace ≡ false

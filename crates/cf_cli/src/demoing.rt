@@ -1,14 +1,14 @@
 //! The client over played peers.
-ghost use Rattle.cf_offline.specs.Reading.{CountsOut};
+ghost use Rattle.cf_offline.specs.{CountsOut};
 ghost use Rattle.std.specs.Prelude.{◌≡◌, ◌≢◌, ◌≤◌, ◌++◌, ℕ, [], false, IfErr, IfOk, OnOk, codes, string_bytes};
-ghost use Rattle.cf_chain.specs.Good.{max_height};
-ghost use Rattle.cf_demo.specs.Demo.{IsDemo, IsSession, IsUnmade, IsUnplayed};
+ghost use Rattle.cf_chain.specs.{max_height};
+ghost use Rattle.cf_demo.specs.{IsDemo, IsSession, IsUnmade, IsUnplayed};
 ghost use Rattle.cf_wires.specs.Log.{Log};
-ghost use Rattle.cf_wires.specs.Session.{session_text};
-ghost use Rattle.cf_played.specs.Told.{finished_of, log_of, peers_of};
+ghost use Rattle.cf_wires.specs.{session_text};
+ghost use Rattle.cf_played.specs.{finished_of, log_of, peers_of};
 ghost use Rattle.cf_cli.specs.Demo.{IsDemoText, IsDemoed, IsUnrecorded, IsUntold, count_line, demo_lines};
-ghost use Rattle.cf_loading.specs.Verdicts.{IsJudged, no_file};
-ghost use Rattle.cf_answers.specs.Statuses.{has_run};
+ghost use Rattle.cf_loading.specs.{IsJudged, no_file};
+ghost use Rattle.cf_answers.specs.{has_run};
 
 use cf_answers::Status;
 use cf_bytes::{NoMemory, Sink};

@@ -1,18 +1,14 @@
 //! A run of the client that follows over any wires, and what is written of it.
 ghost use Rattle.std.specs.Prelude.{◌≡◌, ◌≤◌, ℕ, Bool, [], length, IfOk, IfSome, None, is_some, false};
-ghost use Rattle.cf_bytes.specs.Files.{IsAtMostWritten};
-ghost use Rattle.cf_bytes.specs.Outside.{HasRisen};
-ghost use Rattle.cf_run.specs.Names.{names_in};
-ghost use Rattle.cf_run.specs.Run.{HasDialled, HasFailed};
-ghost use Rattle.cf_run.specs.Versions.{HasGreeting};
-ghost use Rattle.cf_run.specs.Whole.{LeavesWires};
-ghost use Rattle.cf_offline.specs.Reading.{CountsOut};
-ghost use Rattle.cf_wires.specs.Log.{Tells};
+ghost use Rattle.cf_bytes.specs.{IsAtMostWritten, HasRisen};
+ghost use Rattle.cf_run.specs.{names_in, HasDialled, HasFailed, HasGreeting, LeavesWires};
+ghost use Rattle.cf_offline.specs.{CountsOut};
+ghost use Rattle.cf_wires.specs.{Tells};
 ghost use Rattle.cf_cli.specs.Ends.{AreEndsAfter, AreEndsOver};
 ghost use Rattle.cf_cli.specs.Handed.{CountsOn};
 ghost use Rattle.cf_cli.specs.Following.{CutShort, GivenUp, KeptOn, TalliedOn, with_trace};
 ghost use Rattle.cf_cli.specs.Recording.{Records};
-ghost use Rattle.cf_answers.specs.Statuses.{has_run, was_refused, was_unbegun};
+ghost use Rattle.cf_answers.specs.{has_run, was_refused, was_unbegun};
 
 use crate::once::{ends_of, status_of};
 use crate::recording::{keep_where, write_record};

@@ -1,8 +1,8 @@
 //! What the definitions say of one another.
 ghost use Rattle.std.specs.Prelude.{◌≡◌, Ok};
 ghost use Rattle.cf_wires.specs.Log.{Log};
-ghost use Rattle.cf_wires.specs.Session.{session_text};
-ghost use Rattle.cf_input.specs.SessionFile.{session_of};
+ghost use Rattle.cf_wires.specs.{session_text};
+ghost use Rattle.cf_input.specs.{session_of};
 ghost use Rattle.cf_cli.specs.Retelling.{IsRetold, told_script};
 
 /// A record of a run reads as the dials and the deliveries that passed; a failed send reads as a peer that has gone.

@@ -1,15 +1,12 @@
 //! A run of the client over any wires that ends once nothing is open, and what is written of it.
 ghost use Rattle.std.specs.Prelude.{◌≡◌, ◌≤◌, [], length, IfOk, IfSome, is_some, true, false};
-ghost use Rattle.cf_bytes.specs.Files.{IsAtMostWritten};
-ghost use Rattle.cf_bytes.specs.Outside.{HasRisen};
-ghost use Rattle.cf_run.specs.Names.{names_in};
-ghost use Rattle.cf_run.specs.Run.{HasDialled, HasFailed};
-ghost use Rattle.cf_run.specs.Versions.{HasGreeting};
-ghost use Rattle.cf_offline.specs.Reading.{CountsOut};
-ghost use Rattle.cf_wires.specs.Log.{Tells};
+ghost use Rattle.cf_bytes.specs.{IsAtMostWritten, HasRisen};
+ghost use Rattle.cf_run.specs.{names_in, HasDialled, HasFailed, HasGreeting};
+ghost use Rattle.cf_offline.specs.{CountsOut};
+ghost use Rattle.cf_wires.specs.{Tells};
 ghost use Rattle.cf_cli.specs.Ends.{AreEndsAfter};
 ghost use Rattle.cf_cli.specs.Recording.{Records};
-ghost use Rattle.cf_answers.specs.Statuses.{has_run, is_over, was_refused, was_unbegun};
+ghost use Rattle.cf_answers.specs.{has_run, is_over, was_refused, was_unbegun};
 ghost use Rattle.cf_cli.specs.Theorem.{KeptOnce, Tallied, AnswersTo, IsOfRun};
 
 use crate::recording::{keep_where, write_record};

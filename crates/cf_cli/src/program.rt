@@ -1,27 +1,21 @@
 //! All that the program does.
 ghost use Rattle.std.specs.Prelude.{◌≡◌, ◌≢◌, ◌≤◌, ◌⊎◌, true, false, [], ◌∷◌, length, IfSome, is_some, Some, None, Ok, IfErr, IfOk, IsErrOf, OnOk};
 ghost use Rattle.std.specs.FinMap as finite;
-ghost use Rattle.cf_bytes.specs.Files.{IsRead};
-ghost use Rattle.cf_bytes.specs.Outside.{HasRisen};
-ghost use Rattle.cf_run.specs.Whole.{AreNewWires};
-ghost use Rattle.cf_run.specs.Names.{names_in};
-ghost use Rattle.cf_run.specs.Versions.{IsOfGreeting};
-ghost use Rattle.cf_wires.specs.Memory.{log_of, failing_of, finished_of, told_of};
-ghost use Rattle.cf_input.specs.SessionFile.{session_of};
-ghost use Rattle.cf_input.specs.WatchFile.{watch_of};
+ghost use Rattle.cf_bytes.specs.{IsRead, HasRisen};
+ghost use Rattle.cf_run.specs.{AreNewWires, names_in, IsOfGreeting};
+ghost use Rattle.cf_wires.specs.{log_of, failing_of, finished_of, told_of};
+ghost use Rattle.cf_input.specs.{session_of, watch_of, command_of, HasFewPeers};
 ghost use Rattle.cf_cli.specs.Asking.{AsksFor};
-ghost use Rattle.cf_loading.specs.Asking.{Whole};
-ghost use Rattle.cf_loading.specs.Verdicts.{IsJudged, IsOfFile, Good, and_then, watch_verdict, session_verdict};
-ghost use Rattle.cf_offline.specs.Reading.{CountsOut};
-ghost use Rattle.cf_answers.specs.Statuses.{has_run, was_refused, was_unbegun};
+ghost use Rattle.cf_loading.specs.{Whole, IsJudged, IsOfFile, Good, and_then, watch_verdict, session_verdict};
+ghost use Rattle.cf_offline.specs.{CountsOut};
+ghost use Rattle.cf_answers.specs.{has_run, was_refused, was_unbegun};
 ghost use Rattle.cf_cli.specs.Statuses.{verdict_of};
-ghost use Rattle.cf_link.specs.Links.{link_now};
+ghost use Rattle.cf_link.specs.{link_now};
 ghost use Rattle.cf_cli.specs.Doing.{Does, around};
 ghost use Rattle.cf_cli.specs.Ends.{AreEnds, AreEndsAfter, AreEndsOver};
 ghost use Rattle.cf_cli.specs.Handed.{CountsOn, IsNewPlayed, IsNewTape, RunsFiles, RunsWires, UsesFiles, UsesLink, UsesOut, UsesPlayed, UsesTape, UsesWires};
 ghost use Rattle.cf_cli.specs.Following.{IsReplayedIn, KeptLive, TalliedOn};
 ghost use Rattle.cf_cli.specs.Theorem.{KeptOver, Tallied, PlaysSession};
-ghost use Rattle.cf_input.specs.Words.{command_of, HasFewPeers};
 ghost use Rattle.cf_input.specs.declared.words.Command.{Command};
 
 use crate::demoing::demo;

@@ -1,7 +1,7 @@
 //! The record of a run: what passed its wires, as a session file.
 ghost use Rattle.std.specs.Prelude.{◌≡◌, ◌≤◌, [], is_some, IsSome, false, true};
-ghost use Rattle.cf_bytes.specs.Files.{IsAtMostWritten};
-ghost use Rattle.cf_wires.specs.Log.{Tells};
+ghost use Rattle.cf_bytes.specs.{IsAtMostWritten};
+ghost use Rattle.cf_wires.specs.{Tells};
 ghost use Rattle.cf_cli.specs.Recording.{IsRecording, BlamesFiles};
 
 use cf_bytes::{Failed, FileFail, Files, Refused};

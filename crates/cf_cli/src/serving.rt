@@ -1,13 +1,12 @@
 //! The server of a file of blocks.
 ghost use Rattle.std.specs.Prelude.{◌≡◌, ◌+◌, true, false, IfSome, OnOk};
 ghost use Rattle.std.specs.FinMap as finite;
-ghost use Rattle.cf_bytes.specs.Outside.{HasRisen};
-ghost use Rattle.cf_conn.specs.Opened.{IsReadByParts};
-ghost use Rattle.cf_link.specs.Links.{link_now};
-ghost use Rattle.cf_link.specs.Serving.{Counts};
+ghost use Rattle.cf_bytes.specs.{HasRisen};
+ghost use Rattle.cf_conn.specs.{IsReadByParts};
+ghost use Rattle.cf_link.specs.{link_now, Counts};
 ghost use Rattle.cf_cli.specs.Serving.{ServesAt, MayServe, ServesChain, IsServing, answer_of, served_by};
-ghost use Rattle.cf_loading.specs.Verdicts.{IsJudged, blocks_verdict};
-ghost use Rattle.cf_answers.specs.Statuses.{was_refused};
+ghost use Rattle.cf_loading.specs.{IsJudged, blocks_verdict};
+ghost use Rattle.cf_answers.specs.{was_refused};
 
 use cf_answers::Status;
 use cf_bytes::{Failed, Files, Hash32, NoMemory, Refused};

@@ -1,19 +1,19 @@
 //! Whom the client asks, and whom it closes for its silence.
 ghost use Rattle.std.specs.Prelude.{◌≡◌, ◌≢◌, ℕ, ◌<◌, ◌≤◌, ◌∷◌, [], OnOk, IfOk, IsSome, true, false, length};
-ghost use Rattle.cf_headers.specs.Store.{own_of};
+ghost use Rattle.cf_headers.specs.{own_of};
 ghost use Rattle.cf_wires.specs.Log.{Log};
 ghost use Rattle.cf_wires.specs.declared.event.Event.TheVariants.{Took};
 ghost use Rattle.cf_wires.specs.declared.event.Delivery.TheVariants.{Tick};
-ghost use Rattle.cf_match.specs.Verdicts.{AreSameVerdicts};
-ghost use Rattle.cf_tracker.specs.Tracker.{chains_of, verdicts_of};
-ghost use Rattle.cf_peer.specs.Trail.{Part, Passed, with_item};
-ghost use Rattle.cf_dispute.specs.Claims.{Table, Tables};
-ghost use Rattle.cf_hear.specs.Seen.{seen_of};
+ghost use Rattle.cf_match.specs.{AreSameVerdicts};
+ghost use Rattle.cf_tracker.specs.{chains_of, verdicts_of};
+ghost use Rattle.cf_peer.specs.{Part, Passed, with_item, asked_for_claims, asked_for_filters};
+ghost use Rattle.cf_dispute.specs.{Table};
+ghost use Rattle.cf_dispute.specs.Claims.{Tables};
+ghost use Rattle.cf_hear.specs.{seen_of};
 ghost use Rattle.cf_msg.specs.declared.msg.Msg.TheVariants.{GetCfheaders, GetCfilters};
-ghost use Rattle.cf_peer.specs.Peer.{asked_for_claims, asked_for_filters};
 ghost use Rattle.cf_place.specs.declared.place.Loss.{Loss};
 ghost use Rattle.cf_place.specs.declared.place.Place.TheVariants.{Lost};
-ghost use Rattle.cf_place.specs.Places.{Fits, PlacesStand, AreCalm, is_calm, is_idle, is_wanting, is_settled, is_here, place_at, IsQuestion, IsFetch};
+ghost use Rattle.cf_place.specs.{Fits, PlacesStand, AreCalm, is_calm, is_idle, is_wanting, is_settled, is_here, place_at, IsQuestion, IsFetch};
 ghost use Rattle.cf_client.specs.Settled.{AreRight, IsRightAt, IsAskedThrough, AreAskedThrough};
 ghost use Rattle.cf_client.specs.Order.{AddsPings, AddsQuestions, ClosesOne, ClosesLate};
 ghost use Rattle.cf_client.specs.Steps.{desk, IsInOrder, Same, Ticked, Moves, Asks, HasPingedOut, IsPinged, IsSent, IsSentFor, IsSentAsWished};

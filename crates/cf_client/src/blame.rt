@@ -1,7 +1,7 @@
 //! Whom the client closes for what a filter omits.
 ghost use Rattle.std.specs.Prelude.{◌≡◌, ◌<◌, ◌≤◌, OnOk, length};
-ghost use Rattle.cf_match.specs.Verdicts.{AreSameVerdicts};
-ghost use Rattle.cf_tracker.specs.Tracker.{verdicts_of};
+ghost use Rattle.cf_match.specs.{AreSameVerdicts};
+ghost use Rattle.cf_tracker.specs.{verdicts_of};
 ghost use Rattle.cf_client.specs.Shutting.{Shuts, ShutsOne};
 ghost use Rattle.cf_client.specs.Steps.{desk};
 

@@ -1,13 +1,11 @@
 //! The client: a machine that takes deliveries and says what is to be done.
 ghost use Rattle.std.specs.Prelude.{◌≡◌, ℕ, ◌<◌, ◌≤◌, ◌+◌, ◌∷◌, [], OnOk, IfOk, OnErr, IsErr, None, true, false, length, vec_len, map, drop};
 ghost use Rattle.std.specs.List.{list_any, All, count_by};
-ghost use Rattle.cf_peer.specs.Acts.{IsDoable};
-ghost use Rattle.cf_place.specs.Places.{state_of, is_busy, is_here, IsGreeting, end_of};
-ghost use Rattle.cf_place.specs.Standing.{TellsGreeting};
+ghost use Rattle.cf_peer.specs.{IsDoable};
+ghost use Rattle.cf_place.specs.{state_of, is_busy, is_here, IsGreeting, end_of, TellsGreeting};
 ghost use Rattle.cf_client.specs.Settled.{AreSettled, AreRight};
-ghost use Rattle.cf_hear.specs.Seen.{seen_of};
-ghost use Rattle.cf_hear.specs.Judging.{AreJudgedBy, IsUnjudged};
-ghost use Rattle.cf_tracker.specs.Tracker.{claims_of};
+ghost use Rattle.cf_hear.specs.{seen_of, AreJudgedBy, IsUnjudged};
+ghost use Rattle.cf_tracker.specs.{claims_of};
 
 use crate::ask::ask_all;
 use crate::deliver::{cut_off, deliver};
@@ -124,14 +122,13 @@ fn greeting(alloc: Global, moment: i64, nonce: u64) -> Result<Msg, NoMemory>
 }
 
 impl<H: HeaderStore, M: Matcher> Client<H, M> {
-    ghost use Rattle.cf_sync.specs.Fetching.{RightlyIn, once};
+    ghost use Rattle.cf_sync.specs.{RightlyIn, once};
     ghost use Rattle.cf_peer.specs.declared.mode.Mode.TheVariants.{Following};
     ghost use Rattle.cf_wires.specs.Log.{Log};
     ghost use Rattle.cf_wires.specs.declared.event.Event.TheVariants.{Took, Dialled, NotDialled};
     ghost use Rattle.cf_peer.specs.declared.act.Act.TheVariants.{Close};
     ghost use Rattle.cf_peer.specs.declared.peer.Cause.TheVariants.{SendFailed};
-    ghost use Rattle.cf_place.specs.Places.{after as done, ActTells, CutFor, Greets};
-    ghost use Rattle.cf_place.specs.Standing.{IsState, EndsTell};
+    ghost use Rattle.cf_place.specs.{after as done, ActTells, CutFor, Greets, IsState, EndsTell};
     ghost use Rattle.cf_client.specs.Order.{AreInOrder};
     ghost use Rattle.cf_client.specs.Steps.{Extends};
     ghost use Rattle.cf_client.specs.Holding.{Counts, HoldsNoMore};

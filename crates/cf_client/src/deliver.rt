@@ -5,10 +5,10 @@ ghost use Rattle.cf_peer.specs.declared.act.Act.TheVariants.{Close};
 ghost use Rattle.cf_peer.specs.declared.peer.Cause.TheVariants.{SendFailed};
 ghost use Rattle.cf_wires.specs.declared.event.Delivery.TheVariants.{Got, Gone};
 ghost use Rattle.cf_wires.specs.declared.event.Event.TheVariants.{Took};
-ghost use Rattle.cf_match.specs.Verdicts.{AreSameVerdicts};
-ghost use Rattle.cf_tracker.specs.Tracker.{verdicts_of, watch_of};
-ghost use Rattle.cf_hear.specs.Judging.{AreJudgedBy, judging_of};
-ghost use Rattle.cf_place.specs.Places.{AreCalm};
+ghost use Rattle.cf_match.specs.{AreSameVerdicts};
+ghost use Rattle.cf_tracker.specs.{verdicts_of, watch_of};
+ghost use Rattle.cf_hear.specs.{AreJudgedBy, judging_of};
+ghost use Rattle.cf_place.specs.{AreCalm};
 ghost use Rattle.cf_client.specs.Order.{ArePrepared, AreTold};
 ghost use Rattle.cf_client.specs.Steps.{desk, HasLeft, HasPinged, Stands, IsInOrder, Taking, CutOff, Moves};
 

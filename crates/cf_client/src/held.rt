@@ -1,11 +1,11 @@
 //! How much a client keeps.
 ghost use Rattle.std.specs.Prelude.{◌≡◌, ◌≤◌, length};
 ghost use Rattle.std.specs.List.{sum_by};
-ghost use Rattle.cf_block.specs.Size.{capped};
+ghost use Rattle.cf_block.specs.{capped};
 ghost use Rattle.cf_wires.specs.Log.{Log};
-ghost use Rattle.cf_hear.specs.Seen.{seen_of};
+ghost use Rattle.cf_hear.specs.{seen_of};
 ghost use Rattle.cf_hear.specs.Tracks.{Tracks};
-ghost use Rattle.cf_place.specs.Places.{PlacesStand};
+ghost use Rattle.cf_place.specs.{PlacesStand};
 ghost use Rattle.cf_client.specs.Holding.{Counts, HoldsNoMore, came_at, waiting_at, most_at};
 
 use cf_headers::HeaderStore;

@@ -1,5 +1,5 @@
 //! Laws of what a client keeps: functions that do nothing, whose contracts say them.
-ghost use Rattle.cf_headers.specs.Counts.{CountsOnce};
+ghost use Rattle.cf_headers.specs.{CountsOnce};
 ghost use Rattle.cf_wires.specs.Log.{Log};
 ghost use Rattle.cf_client.specs.declared.held.Held.{Held};
 ghost use Rattle.cf_client.specs.Holding.{HoldsNoMore, KeepsHeaders};

@@ -1,2 +1,3 @@
 pub mod Spending
 pub mod Touching
+pub use Rattle.cf_coins.specs.Spending.{spend_txs}

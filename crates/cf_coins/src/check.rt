@@ -1,9 +1,7 @@
 //! The transactions of a block against coins that stay as they are.
 ghost use Rattle.std.specs.Prelude.{◌≡◌, ◌<◌, ◌^◌, length, OnOk, All};
 ghost use Rattle.std.specs.FinMap.{get};
-ghost use Rattle.cf_block.specs.Commitment.{AreTxids};
-ghost use Rattle.cf_block.specs.Outpoint.{spends_of};
-ghost use Rattle.cf_block.specs.Tx.{IsBlock, txid_of};
+ghost use Rattle.cf_block.specs.{AreTxids, spends_of, IsBlock, txid_of};
 ghost use Rattle.cf_coins.specs.Spending.{prevs, spend_txs};
 ghost use Rattle.cf_coins.specs.Touching.{Judges, names_of, places, touched, with_found, with_named};
 

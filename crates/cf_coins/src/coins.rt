@@ -16,7 +16,7 @@ pub struct Coins {
 
 impl Model for Coins {
     ghost use Rattle.std.specs.FinMap.{from_entries};
-    ghost use Rattle.cf_chain.specs.Coins.{CoinMap, coins_code};
+    ghost use Rattle.cf_chain.specs.{CoinMap, coins_code};
 
     ghost Value = { CoinMap };
 

@@ -1,11 +1,8 @@
 //! The transactions of a block against the coins.
 ghost use Rattle.std.specs.Prelude.{◌≡◌, ◌++◌, ◌<◌, ◌^◌, length, IfOk, OnOk, MatchResult, All, Ok, Err};
 ghost use Rattle.std.specs.List.{list_any};
-ghost use Rattle.cf_block.specs.Commitment.{AreTxids, is_coinbase_tx};
-ghost use Rattle.cf_block.specs.Outpoint.{spends_of};
-ghost use Rattle.cf_block.specs.Tx.{IsBlock, txid_of};
-ghost use Rattle.cf_chain.specs.Coins.{spent as spent_of, spent_by, after_tx, after_block};
-ghost use Rattle.cf_chain.specs.Filters.{prevouts};
+ghost use Rattle.cf_block.specs.{AreTxids, is_coinbase_tx, spends_of, IsBlock, txid_of};
+ghost use Rattle.cf_chain.specs.{spent as spent_of, spent_by, after_tx, after_block, prevouts};
 ghost use Rattle.cf_coins.specs.Spending.{prevs, scripts_of, take_all, put_all, spend, spend_all, spend_txs, coinbase_fault as coinbase_fault_of, Gives};
 
 use crate::coins::Coins;

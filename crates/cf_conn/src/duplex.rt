@@ -1,6 +1,6 @@
 //! Connections, as a trait.
 ghost use Rattle.std.specs.Prelude.{◌≡◌, ℕ, ◌≤◌, ◌<◌, ◌||◌, [], length, take, drop, IfOk, IfSome, OnOk, OnErr};
-ghost use Rattle.cf_bytes.specs.Outside.{HasRisen, with_more};
+ghost use Rattle.cf_bytes.specs.{HasRisen, with_more};
 ghost use Rattle.cf_conn.specs.Source.{with_front, is_end};
 ghost use Rattle.cf_conn.specs.Told.{ConnTold};
 

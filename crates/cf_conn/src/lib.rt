@@ -1,4 +1,4 @@
-//! Connections: where bytes come from, and both ways.
+//! Where bytes come from, and both ways, as traits; a file that was opened, and a window on a source's next bytes.
 #![tactic(auto)]
 
 mod duplex;

@@ -1,6 +1,6 @@
 //! Sending all of some bytes.
 ghost use Rattle.std.specs.Prelude.{◌≡◌, ℕ, ◌≤◌, length, take, OnOk, OnErr};
-ghost use Rattle.cf_bytes.specs.Outside.{HasRisen, with_more, WritesAll};
+ghost use Rattle.cf_bytes.specs.{HasRisen, with_more, WritesAll};
 
 use crate::duplex::Duplex;
 use cf_bytes::Failed;

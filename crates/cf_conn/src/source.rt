@@ -1,6 +1,6 @@
 //! Where bytes come from, as a trait.
 ghost use Rattle.std.specs.Prelude.{◌≡◌, ℕ, ◌≤◌, ◌<◌, ◌||◌, Bool, List, [], Option, length, take, drop, IfOk, IfSome, OnOk, OnErr};
-ghost use Rattle.cf_bytes.specs.Outside.{HasRisen};
+ghost use Rattle.cf_bytes.specs.{HasRisen};
 ghost use Rattle.cf_conn.specs.Source.{with_front, is_end};
 
 use cf_bytes::Failed;

@@ -1,4 +1,4 @@
-//! The client over peers in memory: each honest one is an honest peer, and what the others show. A demo of it.
+//! The client over played peers: what `demo` runs and writes, and that an honest played peer is an honest peer.
 #![tactic(auto)]
 
 mod counting;

@@ -1,11 +1,10 @@
 //! Runs of the client over peers in memory on made chains.
 ghost use Rattle.std.specs.Prelude.{◌≡◌, ◌≢◌, ◌⊎◌, ◌≤◌, ◌<◌, ◌+◌, ◌++◌, ◌∷◌, ℕ, [], map, length, IfOk, IfErr, OnOk, true, false};
-ghost use Rattle.cf_chain.specs.Good.{max_height, IsGoodChain};
-ghost use Rattle.cf_run.specs.Names.{names_in};
+ghost use Rattle.cf_chain.specs.{max_height, IsGoodChain};
+ghost use Rattle.cf_run.specs.{names_in};
 ghost use Rattle.cf_demo.specs.Demo.{IsDemo, IsSession, IsToldBy, IsUnmade, IsUnplayed, IsRefusedFor, ArePlayed, HavePrepared, HasPrepared, HasRunOver, AreAdded, demo_watch, demo_names, session_names};
-ghost use Rattle.cf_make.specs.Made.{IsExtension, seed_limit};
-ghost use Rattle.cf_played.specs.Peers.{still};
-ghost use Rattle.cf_played.specs.Told.{HasAdded, log_of, finished_of, keeps_of, peers_of};
+ghost use Rattle.cf_make.specs.{IsExtension, seed_limit};
+ghost use Rattle.cf_played.specs.{still, HasAdded, log_of, finished_of, keeps_of, peers_of};
 
 use crate::counting::{count_closes, count_entries, count_fetches};
 use crate::demo::Demo;

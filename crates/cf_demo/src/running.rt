@@ -1,17 +1,12 @@
 //! A run of the client over peers in memory.
 ghost use Rattle.std.specs.Prelude.{◌≡◌, ◌≤◌, ◌<◌, ℕ, suc, None, Some, true, false, [], map, length, slice_get, IfOk, OnOk};
-ghost use Rattle.cf_run.specs.Names.{names_in};
-ghost use Rattle.cf_run.specs.Versions.{IsOfGreeting};
-ghost use Rattle.cf_run.specs.Whole.{EndsWithin, IsOutcome};
+ghost use Rattle.cf_run.specs.{names_in, IsOfGreeting, EndsWithin, IsOutcome};
 ghost use Rattle.cf_demo.specs.Playing.{Accounts};
-ghost use Rattle.cf_headers.specs.Chain.{NoHashClash};
-ghost use Rattle.cf_wires.specs.Log.{tally_of};
+ghost use Rattle.cf_headers.specs.{NoHashClash};
+ghost use Rattle.cf_wires.specs.{tally_of};
 ghost use Rattle.cf_played.specs.declared.kind.Way.TheVariants.{Honest};
-ghost use Rattle.cf_played.specs.Peers.{Peer, still};
-ghost use Rattle.cf_played.specs.Told.{log_of, finished_of, keeps_of, peers_of};
-ghost use Rattle.cf_sync.specs.Fetching.{once};
-ghost use Rattle.cf_sync.specs.Honesty.{IsHonest};
-ghost use Rattle.cf_sync.specs.Sync.{IsHashed, SyncTheorem};
+ghost use Rattle.cf_played.specs.{Peer, still, log_of, finished_of, keeps_of, peers_of};
+ghost use Rattle.cf_sync.specs.{once, IsHonest, IsHashed, SyncTheorem};
 
 use cf_bytes::NoMemory;
 use cf_headers::HeaderStore;

@@ -1,10 +1,8 @@
 //! What a call of the program goes over, made at once.
 ghost use Rattle.std.specs.Prelude.{◌≡◌, IfOk, [], false};
-ghost use Rattle.cf_network.specs.Standing.{HasThreads};
-ghost use Rattle.cf_played.specs.Told.{log_of as played_log, peers_of};
-ghost use Rattle.cf_played.specs.Told.{keeps_of as has_kept, finished_of as has_finished};
-ghost use Rattle.cf_wires.specs.Log.{Tells};
-ghost use Rattle.cf_wires.specs.Memory.{log_of, script_of, failing_of, keeps_of, finished_of};
+ghost use Rattle.cf_network.specs.{HasThreads};
+ghost use Rattle.cf_played.specs.{log_of as played_log, peers_of, keeps_of as has_kept, finished_of as has_finished};
+ghost use Rattle.cf_wires.specs.{Tells, log_of, script_of, failing_of, keeps_of, finished_of};
 
 use cf_bytes::NoMemory;
 use cf_network::Network;

@@ -1,4 +1,4 @@
-//! What a call of the program goes over.
+//! What `main` makes for a call of `run`: the network, a tape and played peers.
 #![tactic(auto)]
 
 mod edge;

@@ -5,7 +5,7 @@ ghost use Rattle.cf_frame.specs.declared.frame.Frame.{Frame};
 ghost use Rattle.cf_frame.specs.declared.frame.FrameFault.{FrameFault};
 ghost use Rattle.cf_frame.specs.Frame.{IsFrame, spelling};
 ghost use Rattle.cf_frame.specs.Reading.{Begins, front_of};
-ghost use Rattle.cf_bytes.specs.Cut.{IsBytes};
+ghost use Rattle.cf_bytes.specs.{IsBytes};
 ghost use Rattle.cf_frame.specs.Stream.{IsBad, IsStreamOf, from_front, no_frames, read_on, read_stream};
 ghost use Rattle.cf_frame.specs.Stream.{with_frame};
 

@@ -1,7 +1,7 @@
 //! Reading values from bits.
 ghost use Rattle.std.specs.Prelude.{◌≡◌, ◌++◌, ◌<◌, ◌≤◌, ◌^◌, ◌*◌, MatchOption, MatchResult, IfOk, Some, None, Ok, Err};
 ghost use Rattle.cf_golomb.specs.Code.{value_at, values_at, end_at, head_at, body_at, set_at, spelling, HasSpelling};
-ghost use Rattle.cf_bytes.specs.Compact.{compact, compact_at};
+ghost use Rattle.cf_bytes.specs.{compact, compact_at};
 ghost use Rattle.cf_golomb.specs.Meets.{count_of};
 ghost use Rattle.cf_golomb.specs.Answers.{unary_from, Gives, GivesBy, GivesAll, Ends};
 

@@ -1,6 +1,6 @@
 //! Bits from a word that is filled by bytes.
 ghost use Rattle.std.specs.Prelude.{◌≡◌, ◌+◌, ◌*◌, ◌<◌, ◌≤◌, ◌^◌, ◌-◌, ◌++◌, ◌∷◌, [], MatchOption, Some, None, length};
-ghost use Rattle.cf_bytes.specs.Bits.{bits_of};
+ghost use Rattle.cf_bytes.specs.{bits_of};
 ghost use Rattle.cf_golomb.specs.Bits.{unpack, number_at};
 
 use crate::source::BitSource;
@@ -16,7 +16,7 @@ pub(crate) struct WordReader<'a> {
 
 impl<'a> Model for WordReader<'a> {
     ghost use Rattle.std.specs.Prelude.{List, Bool, ◌++◌, ◌≤◌, ◌<◌, ◌^◌};
-    ghost use Rattle.cf_bytes.specs.Bits.{bits_of};
+    ghost use Rattle.cf_bytes.specs.{bits_of};
     ghost use Rattle.cf_golomb.specs.Bits.{unpack};
 
     ghost Value = { List Bool };

@@ -1,6 +1,6 @@
 //! Writing values as bits.
 ghost use Rattle.std.specs.Prelude.{◌≡◌, ◌++◌, ◌+◌, ◌-◌, ◌*◌, ◌%◌, ◌≤◌, ◌<◌, ◌^◌, [], OnOk, IfOk, length};
-ghost use Rattle.cf_bytes.specs.Bits.{bits_of};
+ghost use Rattle.cf_bytes.specs.{bits_of};
 ghost use Rattle.cf_golomb.specs.Bits.{unpack, pack};
 ghost use Rattle.cf_golomb.specs.Code.{code, codes, spelling, IsSet, HasSpelling};
 
@@ -19,7 +19,7 @@ struct Writer {
 
 impl Model for Writer {
     ghost use Rattle.std.specs.Prelude.{List, Bool, ◌++◌, ◌<◌, ◌^◌};
-    ghost use Rattle.cf_bytes.specs.Bits.{bits_of};
+    ghost use Rattle.cf_bytes.specs.{bits_of};
     ghost use Rattle.cf_golomb.specs.Bits.{unpack};
 
     ghost Value = { List Bool };

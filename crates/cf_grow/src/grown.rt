@@ -1,13 +1,12 @@
 //! A chain that grows while it is served.
 ghost use Rattle.std.specs.Prelude.{◌≡◌, IfOk, OnOk, OnErr, true};
-ghost use Rattle.cf_block.specs.Tx.{IsBlock};
-ghost use Rattle.cf_chain.specs.Good.{IsGoodChain};
-ghost use Rattle.cf_chain.specs.Grow.{grown};
+ghost use Rattle.cf_block.specs.{IsBlock};
+ghost use Rattle.cf_chain.specs.{IsGoodChain, grown};
 ghost use Rattle.cf_grow.specs.Growing.{HasMark, HasMomentOf, IsStep, Refuses, RefusesBy, ShrinksAfter, answer_at, fits_on, height_joined, joined_in, mark_of};
 ghost use Rattle.cf_grow.specs.Held.{texts_in};
 ghost use Rattle.cf_msg.specs.declared.msg.Msg.TheVariants.{Block as BlockMessage};
-ghost use Rattle.cf_msg.specs.Message.{HasSpelling};
-ghost use Rattle.cf_server.specs.Serving.{text_of};
+ghost use Rattle.cf_msg.specs.{HasSpelling};
+ghost use Rattle.cf_server.specs.{text_of};
 
 use crate::held::{Parts, hold_answer};
 use crate::mark::{Mark, TakeFail};

@@ -1,18 +1,14 @@
 //! What a message is answered with, held so that the chain isn't needed any more.
 ghost use Rattle.std.specs.Prelude.{◌≡◌, ◌≤◌, ◌++◌, ◌∷◌, [], length, slice_index_or, true, IfOk, OnOk};
 ghost use Rattle.std.specs.List.{AllByRecursion};
-ghost use Rattle.cf_block.specs.Genesis.{first_block};
-ghost use Rattle.cf_block.specs.Tx.{IsBlock};
-ghost use Rattle.cf_chain.specs.Good.{IsGoodChain};
-ghost use Rattle.cf_chain.specs.Grow.{announcement, asked_for};
-ghost use Rattle.cf_chain.specs.Heights.{all_blocks};
-ghost use Rattle.cf_frame.specs.Frame.{spelling};
+ghost use Rattle.cf_block.specs.{first_block, IsBlock};
+ghost use Rattle.cf_chain.specs.{IsGoodChain, announcement, asked_for, all_blocks};
+ghost use Rattle.cf_frame.specs.{spelling};
 ghost use Rattle.cf_grow.specs.Growing.{messages_in, news_in};
 ghost use Rattle.cf_grow.specs.Held.{text_in, texts_in};
 ghost use Rattle.cf_msg.specs.declared.msg.Msg.TheVariants.{Block as BlockMessage};
-ghost use Rattle.cf_msg.specs.Message.{IsEntry, IsWithinLimits, frame_of, payload_of};
-ghost use Rattle.cf_server.specs.Replies.{AreRepliesOf, IsReplyOf, message_of, messages_of};
-ghost use Rattle.cf_server.specs.Serving.{text_of};
+ghost use Rattle.cf_msg.specs.{IsEntry, IsWithinLimits, frame_of, payload_of};
+ghost use Rattle.cf_server.specs.{AreRepliesOf, IsReplyOf, message_of, messages_of, text_of};
 
 use crate::taking::Answer;
 use cf_bytes::{Hash32, Listed, NoMemory};
@@ -31,7 +27,7 @@ pub struct HeldBlock {
 
 impl Model for HeldBlock {
     ghost use Rattle.cf_block.specs.declared.tx.Block.{Block};
-    ghost use Rattle.cf_block.specs.Tx.{IsBlock};
+    ghost use Rattle.cf_block.specs.{IsBlock};
 
     ghost Value = { Block };
 

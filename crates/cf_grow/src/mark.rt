@@ -15,11 +15,11 @@ pub struct Mark {
 
 impl Mark {
     /// Nothing was told.
-    pub fn new(now: i64, nonce: u64) -> Mark
-        ensures { result.served ≡ record { time = now; nonce = nonce; seen = false } }
+    pub fn new(moment: i64, nonce: u64) -> Mark
+        ensures { result.served ≡ record { time = moment; nonce = nonce; seen = false } }
     {
         Mark {
-            served: Serving::new(now, nonce),
+            served: Serving::new(moment, nonce),
             height: 0,
             hash: Hash32([0; 32]),
         }

@@ -1,7 +1,7 @@
 //! Writing what a message is answered with.
 ghost use Rattle.std.specs.Prelude.{◌≡◌, ◌++◌, [], OnOk};
 ghost use Rattle.cf_grow.specs.Held.{text_in, texts_in};
-ghost use Rattle.cf_server.specs.Taking.{CountsWrites, Sends};
+ghost use Rattle.cf_server.specs.{CountsWrites, Sends};
 
 use crate::held::Held;
 use cf_bytes::NoMemory;

@@ -1,12 +1,11 @@
 //! Serving a connection from a chain that grows.
 ghost use Rattle.std.specs.Prelude.{◌≡◌, ◌≤◌, ◌++◌, IfSome, IfOk, IfErr, OnOk};
-ghost use Rattle.cf_frame.specs.Frame.{IsFrame};
-ghost use Rattle.cf_bytes.specs.Cut.{IsBytes};
+ghost use Rattle.cf_frame.specs.{IsFrame};
+ghost use Rattle.cf_bytes.specs.{IsBytes};
 ghost use Rattle.cf_grow.specs.Growing.{HasMomentOf, mark_of};
 ghost use Rattle.cf_grow.specs.Serving.{AnswersFrame, CountsOf, CountsSends, EndsInside, EndsOf, FindsFrame, IsServedGrowing, TakesFrames};
-ghost use Rattle.cf_msg.specs.Message.{HasSpelling};
-ghost use Rattle.cf_msg.specs.Reading.{Answers, message_of as message_in};
-ghost use Rattle.cf_server.specs.Taking.{Idles};
+ghost use Rattle.cf_msg.specs.{HasSpelling, Answers, message_of as message_in};
+ghost use Rattle.cf_server.specs.{Idles};
 
 use crate::ending::Ending;
 use crate::grown::{Grown, take_locked};
@@ -166,18 +165,18 @@ pub fn serve_grown<R: Wait, J: Joins, C: Duplex>(
     grown: &Mutex<Grown>,
     joins: &J,
     conn: &mut C,
-    now: i64,
+    moment: i64,
     nonce: u64,
 ) -> Ending
     ensures served { IfSome (C.left conn.old)
-        (λ bytes. IsServedGrowing now nonce result bytes (C.left conn.new) (C.written conn.old) (C.written conn.new)) }
+        (λ bytes. IsServedGrowing moment nonce result bytes (C.left conn.new) (C.written conn.old) (C.written conn.new)) }
     ensures ends { EndsOf result (C.ended conn.new) (C.left conn.new) }
     ensures counts { CountsOf result (C.Source.faults conn.old) (C.Source.faults conn.new) (C.Sink.faults conn.old)
         (C.Sink.faults conn.new) }
 {
     let mut session = Session {
         framer: Framer::new(alloc),
-        mark: Mark::new(now, nonce),
+        mark: Mark::new(moment, nonce),
         left: MOST_FRAMES,
     };
     let mut piece = [0u8; PIECE];

@@ -1,7 +1,7 @@
 //! The answer to a message, by the chain as it stands.
 ghost use Rattle.std.specs.Prelude.{◌≡◌, ◌++◌, IfOk, OnOk, OnErr, true, false};
 ghost use Rattle.std.specs.List.{flat_map};
-ghost use Rattle.cf_chain.specs.Grow.{is_unknown, told_first, top_hash, unknown_entry, wanted};
+ghost use Rattle.cf_chain.specs.{is_unknown, told_first, top_hash, unknown_entry, wanted};
 ghost use Rattle.cf_grow.specs.Growing.{HasMark, HasMomentOf, IsAnswerOf, Refuses, answer_at, mark_of, moved, news_in};
 
 use crate::mark::{Mark, Shrunk, TakeFail};

@@ -3,9 +3,8 @@ ghost use Rattle.std.specs.Prelude.{◌≡◌, ◌≤◌, ◌<◌, ◌+◌, ◌^
 ghost use Rattle.std.specs.List.{count_by};
 ghost use Rattle.cf_wires.specs.declared.event.Event.TheVariants.{Dialled, NotDialled, Sent, SendFailed, Closed, Took};
 ghost use Rattle.cf_wires.specs.declared.event.Delivery.TheVariants.{Got, Gone, Tick, Ended};
-ghost use Rattle.cf_wires.specs.Log.{Tells, tell, told_finished, longer, was_closed};
+ghost use Rattle.cf_wires.specs.{Tells, tell, told_finished, longer, was_closed, session_text};
 ghost use Rattle.cf_hub.specs.Kept.{kept_log};
-ghost use Rattle.cf_wires.specs.Session.{session_text};
 
 use cf_bytes::{NoMemory, PeerNo};
 use cf_wires::{Delivery, Event, Mark, Name, Piece, put_deliveries, put_dials};
@@ -135,7 +134,7 @@ impl HubLog {
         ensures keeps { keeps_of self.new ≡ keeps_of self.old }
     {
         put(&mut self.log, self.keeps, Event::Dialled(p, name));
-        mark(&mut self.marks, p, Mark::Called);
+        mark(&mut self.marks, p, Mark::Dialled);
         self.dials += 1;
     }
 
@@ -147,7 +146,7 @@ impl HubLog {
         ensures keeps { keeps_of self.new ≡ keeps_of self.old }
     {
         put(&mut self.log, self.keeps, Event::NotDialled(p, name));
-        mark(&mut self.marks, p, Mark::Missed);
+        mark(&mut self.marks, p, Mark::NotDialled);
         self.dials += 1;
     }
 
@@ -183,7 +182,7 @@ impl HubLog {
         ensures keeps { keeps_of self.new ≡ keeps_of self.old }
     {
         put(&mut self.log, self.keeps, Event::SendFailed(p));
-        mark(&mut self.marks, p, Mark::Broken);
+        mark(&mut self.marks, p, Mark::SendFailed);
     }
 
     /// Bytes came from a peer. Where the log is kept it keeps a copy, for which there is room.
@@ -212,7 +211,7 @@ impl HubLog {
         ensures keeps { keeps_of self.new ≡ keeps_of self.old }
     {
         put(&mut self.log, self.keeps, Event::Took(Delivery::Gone(p)));
-        mark(&mut self.marks, p, Mark::Left);
+        mark(&mut self.marks, p, Mark::Gone);
         self.taken += 1;
     }
 
@@ -248,7 +247,7 @@ impl HubLog {
         ensures keeps { keeps_of self.new ≡ keeps_of self.old }
     {
         put(&mut self.log, self.keeps, Event::Closed(p));
-        mark(&mut self.marks, p, Mark::Shut);
+        mark(&mut self.marks, p, Mark::Closed);
         self.closed[p.0 as usize] = true;
     }
 

@@ -3,15 +3,14 @@ ghost use Rattle.std.specs.Prelude.{◌≡◌, ◌≢◌, ◌⊎◌, ◌<◌, �
 ghost use Rattle.std.specs.Option.{ForSome};
 ghost use Rattle.crossbeam_channel.specs.Claims.{view};
 ghost use Rattle.crossbeam_channel.specs.Ends.{sends_on};
-ghost use Rattle.cf_bytes.specs.Outside.{HasRisen, with_more};
+ghost use Rattle.cf_bytes.specs.{HasRisen, with_more};
 ghost use Rattle.cf_hub.specs.Book.{told_of, keeps_of, IsReady};
-ghost use Rattle.cf_tasks.specs.Queue.{of, entry, receiver, with_got};
+ghost use Rattle.cf_tasks.specs.{of, entry, receiver, with_got, HasGiven, HasFailed};
 ghost use Rattle.cf_outside.specs.declared.entry.Kind.TheVariants.{Last};
 ghost use Rattle.cf_hub.specs.Over.{AllGone, Heard, HaveEnded, connected, numbers_from};
 ghost use Rattle.cf_wires.specs.declared.event.Delivery.TheVariants.{Ended};
 ghost use Rattle.cf_wires.specs.declared.event.Event.TheVariants.{Took, Dialled, NotDialled, Sent, SendFailed, Closed};
-ghost use Rattle.cf_wires.specs.Log.{Tells as IsTold, deliveries, tell, told_finished, was_closed};
-ghost use Rattle.cf_wires.specs.Wires.{HasCause};
+ghost use Rattle.cf_wires.specs.{Tells as IsTold, deliveries, tell, told_finished, was_closed, HasCause};
 ghost use Rattle.cf_hub.specs.Kept.{no_script};
 ghost use Rattle.cf_hub.specs.Finish.{whose, begun, numbers_of, read_numbers, Fronts, pulse_in};
 ghost use Rattle.cf_hub.specs.Gives.{delivery_of, given_of, IsProper, LogGives, IsFront};
@@ -19,8 +18,7 @@ ghost use Rattle.cf_hub.specs.Lines.{Down, IsTickers, Ring, Up, Waits};
 ghost use Rattle.cf_hub.specs.Writers.{faults_in, texts, Adds, AreOpen, AreShut, Opens, Sends, Shuts};
 ghost use Rattle.cf_hub.specs.Shown.{Shows, ShowsTicks};
 ghost use Rattle.cf_hub.specs.Threads.{HandsOver, HasOpened, MayHandOver, MayMiss, Moves, Takes};
-ghost use Rattle.cf_tasks.specs.Waiting.{HasGiven, HasFailed};
-ghost use Rattle.cf_outside.specs.Pieces.{is_last, is_open, Reads};
+ghost use Rattle.cf_outside.specs.{is_last, is_open, Reads};
 
 use crate::book::HubLog;
 use crate::joining::{Joined, Rested, each_reads, it_ticks, join_readers, join_ticker};

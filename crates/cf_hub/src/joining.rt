@@ -3,11 +3,10 @@ ghost use Rattle.std.specs.Prelude.{◌≡◌, ◌≤◌, ◌<◌, [], map, All,
 ghost use Rattle.std.specs.Option.{ForSome};
 ghost use Rattle.crossbeam_channel.specs.Claims.{view as knows};
 ghost use Rattle.crossbeam_channel.specs.Ends.{sends_on};
-ghost use Rattle.cf_tasks.specs.Queue.{of};
+ghost use Rattle.cf_tasks.specs.{of};
 ghost use Rattle.cf_hub.specs.Finish.{whose, begun, Fronts, pulse_in};
 ghost use Rattle.cf_hub.specs.Gives.{IsFront};
-ghost use Rattle.cf_outside.specs.Pieces.{Reads};
-ghost use Rattle.cf_outside.specs.Ticks.{Ticked};
+ghost use Rattle.cf_outside.specs.{Reads, Ticked};
 
 use cf_conn::Source;
 use cf_outside::{Finished, Kind, Pulse, Reader, Stopped, Ticker};
@@ -29,7 +28,7 @@ pub struct Joined<S: Source + Drop, R: Wait + Drop> {
 impl<S: Source + Drop, R: Wait + Drop> Model for Joined<S, R> {
     ghost use Rattle.crossbeam_channel.specs.Claims.{view as knows};
     ghost use Rattle.cf_hub.specs.Finish.{Read};
-    ghost use Rattle.cf_outside.specs.Pieces.{Reads};
+    ghost use Rattle.cf_outside.specs.{Reads};
 
     ghost Value = { Read S };
 
@@ -73,7 +72,7 @@ pub struct Rested<P: Pulse, R: Wait + Drop> {
 impl<P: Pulse, R: Wait + Drop> Model for Rested<P, R> {
     ghost use Rattle.crossbeam_channel.specs.Claims.{view as knows};
     ghost use Rattle.cf_hub.specs.Finish.{Beat};
-    ghost use Rattle.cf_outside.specs.Ticks.{Ticked};
+    ghost use Rattle.cf_outside.specs.{Ticked};
 
     ghost Value = { Beat P };
 

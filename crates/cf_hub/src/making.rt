@@ -4,7 +4,7 @@ ghost use Rattle.crossbeam_channel.specs.Claims.{view};
 ghost use Rattle.crossbeam_channel.specs.Ends.{sends_on};
 ghost use Rattle.cf_hub.specs.Book.{told_of, keeps_of};
 ghost use Rattle.cf_hub.specs.Lines.{Down, Waits};
-ghost use Rattle.cf_wires.specs.Log.{Tells as IsTold};
+ghost use Rattle.cf_wires.specs.{Tells as IsTold};
 
 use crate::book::HubLog;
 use cf_bytes::NoMemory;

@@ -2,10 +2,10 @@
 ghost use Rattle.std.specs.Prelude.{◌≡◌, ◌≢◌, ◌≤◌, ◌++◌, ◌∷◌, [], true, false, IfSome, IfNone, slice_index_or, slice_set, vec_capacity};
 ghost use Rattle.crossbeam_channel.specs.Claims.{view};
 ghost use Rattle.crossbeam_channel.specs.Ends.{sends_on};
-ghost use Rattle.cf_tasks.specs.Queue.{entry};
-ghost use Rattle.cf_outside.specs.Pieces.{is_last};
+ghost use Rattle.cf_tasks.specs.{entry};
+ghost use Rattle.cf_outside.specs.{is_last};
 ghost use Rattle.cf_wires.specs.declared.event.Event.TheVariants.{Took};
-ghost use Rattle.cf_wires.specs.Log.{tell};
+ghost use Rattle.cf_wires.specs.{tell};
 ghost use Rattle.cf_hub.specs.Book.{told_of, keeps_of, IsReady};
 ghost use Rattle.cf_hub.specs.Gives.{given_of, IsProper};
 ghost use Rattle.cf_hub.specs.Over.{AllGone, Heard, connected};

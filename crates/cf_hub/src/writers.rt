@@ -1,6 +1,6 @@
 //! The writers of the peers, by their numbers.
 ghost use Rattle.std.specs.Prelude.{◌≡◌, ◌<◌, ◌≤◌, ℕ, List, Bool, true, false, IfNone, IfSome, OnOk, OnErr, Result, length, slice_index_or, take, vec_capacity, vec_len};
-ghost use Rattle.cf_bytes.specs.Outside.{HasRisen, with_more};
+ghost use Rattle.cf_bytes.specs.{HasRisen, with_more};
 ghost use Rattle.cf_hub.specs.Over.{connected};
 ghost use Rattle.cf_hub.specs.Writers.{faults_in, texts, Adds, AreOpen, Shuts};
 

@@ -1,6 +1,6 @@
 //! A course of calls over any wires, and what came of them.
 ghost use Rattle.std.specs.Prelude.{◌≡◌, [], false};
-ghost use Rattle.cf_wires.specs.Log.{Tells};
+ghost use Rattle.cf_wires.specs.{Tells};
 
 use crate::guide::{Guide, Joins};
 use crate::lines::{are_in_order, put_bytes, put_firsts, put_peers};

@@ -1,6 +1,6 @@
 //! Wires that may be called in any order: a call that must not come is not made.
 ghost use Rattle.std.specs.Prelude.{◌≡◌, [], false};
-ghost use Rattle.cf_wires.specs.Log.{Tells};
+ghost use Rattle.cf_wires.specs.{Tells};
 
 use cf_bytes::PeerNo;
 use cf_wires::{Delivery, MemoryWires, WireFail, Wires};

@@ -1,14 +1,12 @@
 //! A peer that is heard over a hub whose outside tells all that it gives. What comes of it is proved to be what it
 //! gave.
 ghost use Rattle.std.specs.Prelude.{◌≡◌, ℕ, ◌++◌, ◌∷◌, ◌||◌, List, [], true, false, IfSome, Some, map};
-ghost use Rattle.cf_hub.specs.Book.{told_of};
-ghost use Rattle.cf_hub.specs.Finish.{begun, pulse_in};
-ghost use Rattle.cf_hub.specs.Gives.{piece_in, is_gone_of, tick_in};
+ghost use Rattle.cf_hub.specs.{told_of, begun, pulse_in, piece_in, is_gone_of, tick_in};
 ghost use Rattle.cf_hub_cases.specs.declared.telling.ToldPulse.{ToldPulse};
 ghost use Rattle.cf_hub_cases.specs.declared.telling.ToldSource.{ToldSource};
 ghost use Rattle.cf_hub_cases.specs.Telling.{up_to, Coming, HasText, Keeps};
-ghost use Rattle.cf_tasks.specs.Queue.{IsStart};
-ghost use Rattle.cf_wires.specs.Log.{Tells};
+ghost use Rattle.cf_tasks.specs.{IsStart};
+ghost use Rattle.cf_wires.specs.{Tells};
 
 use crate::doors::{amount, is_none};
 use crate::telling::{ToldCounts, ToldDialer, ToldPeer, ToldPulse};

@@ -1,7 +1,7 @@
 //! The hub of a row, as wires of which contracts see what they tell, and not how they are made.
 ghost use Rattle.std.specs.Prelude.{◌≡◌, None, IfOk, IfSome, [], false};
-ghost use Rattle.cf_hub.specs.Book.{told_of, keeps_of};
-ghost use Rattle.cf_wires.specs.Log.{Tells};
+ghost use Rattle.cf_hub.specs.{told_of, keeps_of};
+ghost use Rattle.cf_wires.specs.{Tells};
 
 use crate::doors::{Count, SHUT, add, same};
 use crate::guide::Joins;
@@ -24,8 +24,7 @@ pub(crate) struct Held<R: Wait + Threads + Copy + Drop> {
 
 impl<R: Wait + Threads + Copy + Drop> Model for Held<R> {
     ghost use Rattle.std.specs.Prelude.{◌+◌};
-    ghost use Rattle.cf_hub.specs.Book.{told_of, keeps_of};
-    ghost use Rattle.cf_hub.specs.Writers.{faults_in};
+    ghost use Rattle.cf_hub.specs.{told_of, keeps_of, faults_in};
     ghost use Rattle.cf_hub_cases.specs.Standing.{Standing};
 
     ghost Value = { Standing };

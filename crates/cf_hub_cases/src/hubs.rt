@@ -1,6 +1,6 @@
 //! Courses of calls over a hub whose outside is in memory.
 ghost use Rattle.std.specs.Prelude.{◌≡◌, [], false};
-ghost use Rattle.cf_wires.specs.Log.{Tells};
+ghost use Rattle.cf_wires.specs.{Tells};
 
 use crate::course::{Course, Until};
 use crate::doors::{is_none, stands_at};

@@ -1,7 +1,7 @@
 //! A session that is read and run again.
 ghost use Rattle.std.specs.Prelude.{◌≡◌, IfSome, true};
 ghost use Rattle.std.specs.List.{list_all};
-ghost use Rattle.cf_wires.specs.Log.{is_real};
+ghost use Rattle.cf_wires.specs.{is_real};
 
 use crate::course::{Course, Until};
 use cf_input::{Session, read_session};

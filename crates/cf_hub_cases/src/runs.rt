@@ -1,6 +1,6 @@
 //! Whole calls of the program over hubs whose outside is in memory.
 ghost use Rattle.std.specs.Prelude.{◌≡◌, IfSome, [], false};
-ghost use Rattle.cf_wires.specs.Log.{Tells};
+ghost use Rattle.cf_wires.specs.{Tells};
 
 use crate::held::{Held, Numbers};
 use crate::outside::Counts;

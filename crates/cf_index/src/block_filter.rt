@@ -1,6 +1,6 @@
 //! The filter of a block, and what goes with it.
 ghost use Rattle.std.specs.Prelude.{◌≡◌};
-ghost use Rattle.cf_filter.specs.Filter.{filter_hash_of};
+ghost use Rattle.cf_filter.specs.{filter_hash_of};
 
 use cf_bytes::{Hash32, Listed};
 

@@ -1,13 +1,9 @@
 //! Blocks that are put on a good chain one by one.
 ghost use Rattle.std.specs.Prelude.{◌≡◌, ◌++◌, ◌∷◌, [], IfOk, OnOk};
-ghost use Rattle.cf_block.specs.Tx.{IsBlock};
-ghost use Rattle.cf_block.specs.Commitment.{AreTxids};
-ghost use Rattle.cf_block.specs.Header.{block_hash_of};
-ghost use Rattle.cf_chain.specs.Coins.{after_block};
-ghost use Rattle.cf_chain.specs.Filters.{prevouts};
-ghost use Rattle.cf_walk.specs.Files.{cause_on};
+ghost use Rattle.cf_block.specs.{IsBlock, AreTxids, block_hash_of};
+ghost use Rattle.cf_chain.specs.{after_block, prevouts};
+ghost use Rattle.cf_walk.specs.{cause_on, FindsCause};
 ghost use Rattle.cf_index.specs.Progress.{Keeps};
-ghost use Rattle.cf_walk.specs.Progress.{FindsCause};
 
 use cf_block::{Block, TxIds, block_hash, genesis_header};
 use cf_bytes::{Hash32, Listed, Refused};

@@ -1,14 +1,9 @@
 //! Chains that were checked.
 ghost use Rattle.std.specs.Prelude.{◌≡◌, ◌∷◌, ◌++◌, [], length, map, IfOk};
 ghost use Rattle.std.specs.FinMap.{empty};
-ghost use Rattle.cf_block.specs.Commitment.{AreTxids};
-ghost use Rattle.cf_block.specs.Header.{block_hash_of};
-ghost use Rattle.cf_block.specs.Tx.{txid_of};
-ghost use Rattle.cf_block.specs.Views.{bytes_of};
-ghost use Rattle.cf_chain.specs.Coins.{coins_after};
-ghost use Rattle.cf_chain.specs.Filters.{filters_of, first_filtered, prevouts};
-ghost use Rattle.cf_chain.specs.Good.{IsGoodChain, headers_of};
-ghost use Rattle.cf_headers.specs.Chain.{tip_hash};
+ghost use Rattle.cf_block.specs.{AreTxids, block_hash_of, txid_of, bytes_of};
+ghost use Rattle.cf_chain.specs.{coins_after, filters_of, first_filtered, prevouts, IsGoodChain, headers_of};
+ghost use Rattle.cf_headers.specs.{tip_hash};
 ghost use Rattle.cf_index.specs.Progress.{Keeps};
 
 use crate::block_filter::BareFilter;
@@ -38,8 +33,8 @@ pub struct CheckedChain {
 impl Model for CheckedChain {
     ghost use Rattle.std.specs.Prelude.{◌≡◌, List};
     ghost use Rattle.cf_block.specs.declared.tx.Block.{Block};
-    ghost use Rattle.cf_headers.specs.Chain.{tip_hash, past_of};
-    ghost use Rattle.cf_chain.specs.Good.{headers_of};
+    ghost use Rattle.cf_headers.specs.{tip_hash, past_of};
+    ghost use Rattle.cf_chain.specs.{headers_of};
     ghost use Rattle.cf_index.specs.Checked.{IsChecked};
 
     ghost Value = { List Block };

@@ -1,9 +1,8 @@
 //! Files of blocks.
 ghost use Rattle.std.specs.Prelude.{◌≡◌, ◌≤◌, ◌+◌, [], zero, suc, length, IfOk};
-ghost use Rattle.cf_chain.specs.Good.{IsGoodChain, max_height};
-ghost use Rattle.cf_walk.specs.Files.{IsGoodFile, StopsAt, IsBadFile, IfBad, next_at, blocks_from, blocks_at, Answers};
+ghost use Rattle.cf_chain.specs.{IsGoodChain, max_height};
+ghost use Rattle.cf_walk.specs.{IsGoodFile, StopsAt, IsBadFile, IfBad, next_at, blocks_from, blocks_at, Answers, HasRecord, IsRecordsOf};
 ghost use Rattle.cf_index.specs.Progress.{Keeps, GivesNext};
-ghost use Rattle.cf_walk.specs.Progress.{HasRecord, IsRecordsOf};
 
 use crate::chain::{Blocks, Chain, new_chain, put_on_chain};
 use crate::checked::CheckedChain;

@@ -4,9 +4,9 @@ ghost use Rattle.std.specs.Thread.{IsSync};
 ghost use Rattle.std.specs.List.{AllZip};
 ghost use Rattle.rayon.specs.Numbers.{nat_range};
 ghost use Rattle.cf_block.specs.declared.tx.Block.{Block as BlockOf};
-ghost use Rattle.cf_block.specs.Header.{block_hash_of};
-ghost use Rattle.cf_chain.specs.Filters.{filtered, first_filtered, filters_of};
-ghost use Rattle.cf_filter.specs.Items.{paid_scripts};
+ghost use Rattle.cf_block.specs.{block_hash_of};
+ghost use Rattle.cf_chain.specs.{filtered, first_filtered, filters_of};
+ghost use Rattle.cf_filter.specs.{paid_scripts};
 ghost use Rattle.cf_index.specs.Bare.{AreKept, GoOn, IsBare, IsBareAt};
 ghost use Rattle.cf_index.specs.Filtering.{shown};
 

@@ -2,13 +2,10 @@
 ghost use Rattle.std.specs.Prelude.{◌≡◌, ◌≤◌, ◌++◌, ◌∷◌, [], ℕ, List, Ok, Err, None, length, replicate};
 ghost use Rattle.std.specs.List.{flat_map, AllByRecursion};
 ghost use Rattle.cf_block.specs.declared.tx.Block.{Block};
-ghost use Rattle.cf_block.specs.Genesis.{first_block};
-ghost use Rattle.cf_block.specs.Stored.{IsStored};
-ghost use Rattle.cf_block.specs.Tx.{IsBlock};
-ghost use Rattle.cf_chain.specs.Good.{IsGoodChain};
+ghost use Rattle.cf_block.specs.{first_block, IsStored, IsBlock};
+ghost use Rattle.cf_chain.specs.{IsGoodChain};
 ghost use Rattle.cf_walk.specs.declared.cause.BadBlock.{BadBlock};
-ghost use Rattle.cf_walk.specs.Files.{IsGoodFile, IsBadFile, blocks_at, cause_on};
-ghost use Rattle.cf_walk.specs.Records.{record_with, max_record, record_spelling};
+ghost use Rattle.cf_walk.specs.{IsGoodFile, IsBadFile, blocks_at, cause_on, record_with, max_record, record_spelling};
 
 /// A good file is read as its blocks, and so as no others; a bad one is refused for its first bad record; and no file
 /// is both. With `read_chain`'s clauses, a file is taken exactly where it is good, and refused exactly where it isn't.

@@ -1,7 +1,7 @@
 //! An index is loaded from a source of bytes.
 ghost use Rattle.std.specs.Prelude.{◌≡◌, IfOk};
-ghost use Rattle.cf_chain.specs.Good.{IsGoodChain};
-ghost use Rattle.cf_walk.specs.Files.{blocks_at};
+ghost use Rattle.cf_chain.specs.{IsGoodChain};
+ghost use Rattle.cf_walk.specs.{blocks_at};
 ghost use Rattle.cf_index.specs.Loading.{Loads, Indexes};
 
 use crate::file::read_chain;

@@ -1,8 +1,8 @@
 //! Chains of blocks that are read from a source.
 ghost use Rattle.std.specs.Prelude.{◌≡◌, ℕ, List, Some, true, IfOk};
-ghost use Rattle.cf_chain.specs.Good.{IsGoodChain};
+ghost use Rattle.cf_chain.specs.{IsGoodChain};
 ghost use Rattle.cf_conn.specs.Steps.{Steps};
-ghost use Rattle.cf_walk.specs.Striding.{CountsLoad, ReadsAs};
+ghost use Rattle.cf_walk.specs.{CountsLoad, ReadsAs};
 
 use crate::checked::CheckedChain;
 use cf_bytes::NoMemory;

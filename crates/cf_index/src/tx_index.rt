@@ -3,9 +3,9 @@ ghost use Rattle.std.specs.Prelude.{◌≡◌, ◌≤◌, ◌<◌, ◌^◌, IfOk
 ghost use Rattle.std.specs.FinMap.{get, empty};
 ghost use Rattle.std.specs.List.{AllByRecursion};
 ghost use Rattle.std.specs.Option.{option_or};
-ghost use Rattle.cf_block.specs.Views.{bytes_of};
+ghost use Rattle.cf_block.specs.{bytes_of};
 ghost use Rattle.cf_bytes.specs.declared.hash.Hash32.{Hash32};
-ghost use Rattle.cf_chain.specs.Good.{max_height};
+ghost use Rattle.cf_chain.specs.{max_height};
 ghost use Rattle.cf_index.specs.ByHash.{with_first};
 ghost use Rattle.cf_index.specs.Finding.{found_from, place_at, AreFirstPlaces, AreTaken};
 

@@ -1,6 +1,6 @@
 //! The file of a proof: a transaction, and the proof that it stands in a block.
 ghost use Rattle.std.specs.Prelude.{◌≡◌, IfOk, option_map};
-ghost use Rattle.cf_block.specs.Tx.{tx_spelling};
+ghost use Rattle.cf_block.specs.{tx_spelling};
 ghost use Rattle.cf_input.specs.Lines.{GivesRead};
 ghost use Rattle.cf_input.specs.ProofFile.{bytes_after, tx_in, tx_in_line, block_of, block_in_line, block_from, proof_file_of};
 

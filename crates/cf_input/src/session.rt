@@ -1,7 +1,7 @@
 //! Session files: the dials of a run, and then what is delivered.
 ghost use Rattle.std.specs.Prelude.{◌≡◌, ◌+◌, ◌<◌, ◌≤◌, ◌^◌, true, ◌++◌, ◌∷◌, [], length, map, string_bytes, IfOk, OnOk, option_map};
 ghost use Rattle.std.specs.List.{list_all};
-ghost use Rattle.cf_wires.specs.Log.{is_real};
+ghost use Rattle.cf_wires.specs.{is_real};
 ghost use Rattle.cf_input.specs.Lines.{GivesRead, GivesAfter};
 ghost use Rattle.cf_input.specs.Name.{is_name};
 ghost use Rattle.cf_input.specs.SessionFile.{max_dials, answer_of, dial_of, peer_of, got_of, gone_of, tick_of, delivery_of, taken, line_after, lines_in, session_of};

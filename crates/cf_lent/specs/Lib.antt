@@ -1,1 +1,2 @@
 pub mod View
+pub use Rattle.cf_lent.specs.View.{msg_of}

@@ -1,12 +1,8 @@
 //! Reading messages whose lists and bytes are lent out of the payload.
 ghost use Rattle.std.specs.Prelude.{◌≡◌};
-ghost use Rattle.cf_view.specs.Lent.{GivesFirst};
-ghost use Rattle.cf_bytes.specs.Cut.{Reads};
-ghost use Rattle.cf_bytes.specs.Lists.{list_at, counted_bytes_at};
-ghost use Rattle.cf_msg.specs.Reading.{of_cut, hash_item_at, header_item_at, entry_at, entries_at, filter_hashes_at};
-ghost use Rattle.cf_msg.specs.Reading.{version_at, ping_at, pong_at, getheaders_at, headers_at, getdata_at, inv_at};
-ghost use Rattle.cf_msg.specs.Reading.{block_message_at, getcfilters_at, cfilter_at, getcfheaders_at, cfheaders_at};
-ghost use Rattle.cf_msg.specs.Reading.{getcfcheckpt_at, cfcheckpt_at, fields_at, whole_at, message_of};
+ghost use Rattle.cf_view.specs.{GivesFirst};
+ghost use Rattle.cf_bytes.specs.{Reads, list_at, counted_bytes_at};
+ghost use Rattle.cf_msg.specs.{of_cut, hash_item_at, header_item_at, entry_at, entries_at, filter_hashes_at, version_at, ping_at, pong_at, getheaders_at, headers_at, getdata_at, inv_at, block_message_at, getcfilters_at, cfilter_at, getcfheaders_at, cfheaders_at, getcfcheckpt_at, cfcheckpt_at, fields_at, whole_at, message_of};
 ghost use Rattle.cf_lent.specs.View.{Views, msg_of};
 
 use crate::views::View;
@@ -52,8 +48,8 @@ pub struct HashesView<'a> {
 impl<'a> Model for HashesView<'a> {
     ghost use Rattle.std.specs.Prelude.{List};
     ghost use Rattle.cf_bytes.specs.declared.hash.Hash32.{Hash32};
-    ghost use Rattle.cf_view.specs.Lent.{AreThere, items_in};
-    ghost use Rattle.cf_msg.specs.Reading.{hash_item_at};
+    ghost use Rattle.cf_view.specs.{AreThere, items_in};
+    ghost use Rattle.cf_msg.specs.{hash_item_at};
 
     ghost Value = { List Hash32 };
 
@@ -87,8 +83,8 @@ pub struct HeadersView<'a> {
 impl<'a> Model for HeadersView<'a> {
     ghost use Rattle.std.specs.Prelude.{List};
     ghost use Rattle.cf_block.specs.declared.header.Header.{Header};
-    ghost use Rattle.cf_view.specs.Lent.{AreThere, items_in};
-    ghost use Rattle.cf_msg.specs.Reading.{header_item_at};
+    ghost use Rattle.cf_view.specs.{AreThere, items_in};
+    ghost use Rattle.cf_msg.specs.{header_item_at};
 
     ghost Value = { List Header };
 
@@ -122,8 +118,8 @@ pub struct EntriesView<'a> {
 impl<'a> Model for EntriesView<'a> {
     ghost use Rattle.std.specs.Prelude.{List};
     ghost use Rattle.cf_msg.specs.declared.msg.Inventory.{Inventory};
-    ghost use Rattle.cf_view.specs.Lent.{AreThere, items_in};
-    ghost use Rattle.cf_msg.specs.Reading.{entry_at};
+    ghost use Rattle.cf_view.specs.{AreThere, items_in};
+    ghost use Rattle.cf_msg.specs.{entry_at};
 
     ghost Value = { List Inventory };
 

@@ -1,8 +1,7 @@
 //! A link in memory, with calls that are to fail.
 ghost use Rattle.std.specs.Prelude.{◌≡◌, ◌≤◌, ◌+◌, ◌-◌, ◌↔◌, [], ◌∷◌, ◌++◌, length, take, drop, map, All, Some, IfOk, OnOk, OnErr, IsErr, IsTrue, true, false, nat_lt, vec_len, vec_capacity};
 ghost use Rattle.std.specs.VecDeque.{deque_len};
-ghost use Rattle.cf_bytes.specs.Outside.{HasRisen};
-ghost use Rattle.cf_bytes.specs.Plan.{is_refused, after_call};
+ghost use Rattle.cf_bytes.specs.{HasRisen, is_refused, after_call};
 ghost use Rattle.cf_link.specs.Links.{IsFresh, can_listen, listened, longer_by, told_now};
 
 use crate::link::Link;

@@ -1,7 +1,7 @@
 //! Where connections come from, as a trait.
 ghost use Rattle.std.specs.Prelude.{◌≡◌, ℕ, ◌+◌, ◌<◌, List, Option, [], ◌∷◌, IfOk, OnOk, OnErr};
-ghost use Rattle.cf_bytes.specs.Outside.{HasRisen};
-ghost use Rattle.cf_conn.specs.Told.{ConnTold};
+ghost use Rattle.cf_bytes.specs.{HasRisen};
+ghost use Rattle.cf_conn.specs.{ConnTold};
 ghost use Rattle.cf_link.specs.Links.{Given, IsFresh, longer_by, told_now};
 
 use cf_bytes::{Failed, Hash32};

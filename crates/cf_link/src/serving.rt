@@ -1,6 +1,6 @@
 //! A task for each connection.
 ghost use Rattle.std.specs.Prelude.{◌≡◌, ◌≤◌, ◌+◌, ℕ, [], ◌∷◌, ◌++◌, true, false, length, IfOk, OnOk, OnErr};
-ghost use Rattle.cf_conn.specs.Told.{ConnTold};
+ghost use Rattle.cf_conn.specs.{ConnTold};
 ghost use Rattle.cf_link.specs.Links.{link_now, longer_by, told_now};
 ghost use Rattle.cf_link.specs.Tasks.{IsTaskOf, GivesBack, Halfway};
 ghost use Rattle.cf_link.specs.Serving.{Serves, Counts};

@@ -1,6 +1,6 @@
 //! What serves a connection, and its task.
 ghost use Rattle.std.specs.Prelude.{◌≡◌, ℕ, IfOk};
-ghost use Rattle.cf_conn.specs.Told.{ConnTold};
+ghost use Rattle.cf_conn.specs.{ConnTold};
 ghost use Rattle.cf_link.specs.Links.{told_now};
 
 use cf_bytes::NoMemory;

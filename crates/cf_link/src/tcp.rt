@@ -1,6 +1,6 @@
 //! Connections over TCP. They tell no bytes.
 ghost use Rattle.std.specs.Prelude.{◌≡◌, ◌≤◌, ◌-◌, None};
-ghost use Rattle.cf_bytes.specs.Outside.{HasRisen};
+ghost use Rattle.cf_bytes.specs.{HasRisen};
 
 use crate::link::Link;
 use cf_bytes::{Failed, Hash32, Sink};

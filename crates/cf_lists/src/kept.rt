@@ -1,10 +1,7 @@
 //! One peer's chain as the list of its headers, the lowest first.
 ghost use Rattle.std.specs.Prelude.{◌≡◌, ◌≤◌, ◌<◌, ◌^◌, [], ◌++◌, Some, None, take, vec_len, length, IfSome, IfOk, OnOk, OnErr};
 ghost use Rattle.std.specs.List.{common_prefix_len};
-ghost use Rattle.cf_headers.specs.Chain.{IsValidChain, IsWithinLimit, past_of, lower, accept, accept_on};
-ghost use Rattle.cf_headers.specs.Heights.{hash_at, AreGoodAbove, height_of, is_same_header, common_of};
-ghost use Rattle.cf_headers.specs.Changes.{link_height, change_of, chain_after};
-ghost use Rattle.cf_headers.specs.Entries.{headers_of, past_through};
+ghost use Rattle.cf_headers.specs.{IsValidChain, IsWithinLimit, past_of, lower, accept, accept_on, hash_at, AreGoodAbove, height_of, is_same_header, common_of, link_height, change_of, chain_after, headers_of, past_through};
 
 use cf_block::{Header, block_hash, genesis_header};
 use cf_bytes::{Hash32, NoMemory};
@@ -19,8 +16,8 @@ pub(crate) struct KeptChain {
 }
 
 impl Model for KeptChain {
-    ghost use Rattle.cf_headers.specs.Chain.{Chain, IsValidChain, IsWithinLimit};
-    ghost use Rattle.cf_headers.specs.Entries.{chain_of};
+    ghost use Rattle.cf_headers.specs.{IsValidChain, IsWithinLimit, chain_of};
+    ghost use Rattle.cf_headers.specs.Chain.{Chain};
 
     ghost Value = { Chain };
 

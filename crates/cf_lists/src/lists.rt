@@ -25,7 +25,7 @@ pub struct Lists {
 impl Lists {
     ghost use Rattle.std.specs.Prelude.{IfOk, [], Some, None, if◌then◌else◌};
     ghost use Rattle.cf_lists.specs.Lists.{chains_in};
-    ghost use Rattle.cf_headers.specs.Store.{Puts};
+    ghost use Rattle.cf_headers.specs.{Puts};
 
     /// A store in which no peer is entered.
     pub fn new(alloc: Global) -> Result<Lists, NoMemory>
@@ -61,7 +61,7 @@ impl Lists {
 
 impl HeaderStore for Lists {
     ghost use Rattle.cf_lists.specs.Lists.{chains_in};
-    ghost use Rattle.cf_headers.specs.Counts.{CountsEach};
+    ghost use Rattle.cf_headers.specs.{CountsEach};
 
     ghost chain = { λ s. chains_in s.slots.items };
 

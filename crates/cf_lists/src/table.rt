@@ -1,6 +1,6 @@
 //! The common heights of each two places' chains.
 ghost use Rattle.std.specs.Prelude.{◌≡◌, ◌≤◌, ◌<◌, length, vec_len};
-ghost use Rattle.cf_headers.specs.Heights.{common_of};
+ghost use Rattle.cf_headers.specs.{common_of};
 ghost use Rattle.cf_lists.specs.Lists.{IsCommonUpTo, AreCommons, AreCommonsBut, IsRowUpTo};
 
 use crate::kept::KeptChain;

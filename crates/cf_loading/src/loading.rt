@@ -2,18 +2,13 @@
 ghost use Rattle.std.specs.Prelude.{◌≡◌, ◌≤◌, ℕ, List, true, length, IfOk, IfErr, IfSome, IsErrOf, OnOk, Ok, Some, string_bytes};
 ghost use Rattle.std.specs.FinMap as finite;
 ghost use Rattle.std.specs.List.{list_all};
-ghost use Rattle.cf_bytes.specs.Files.{IsRead};
-ghost use Rattle.cf_bytes.specs.Outside.{HasRisen};
-ghost use Rattle.cf_chain.specs.Good.{IsGoodChain};
-ghost use Rattle.cf_conn.specs.Opened.{IsPartRead, IsReadByParts};
+ghost use Rattle.cf_bytes.specs.{IsRead, HasRisen};
+ghost use Rattle.cf_chain.specs.{IsGoodChain};
+ghost use Rattle.cf_conn.specs.{IsPartRead, IsReadByParts};
 ghost use Rattle.cf_conn.specs.Steps.{Steps};
-ghost use Rattle.cf_walk.specs.Files.{blocks_at};
-ghost use Rattle.cf_walk.specs.Striding.{CountsLoad, ReadsAs};
-ghost use Rattle.cf_input.specs.ProofFile.{proof_file_of};
-ghost use Rattle.cf_input.specs.SessionFile.{session_of};
-ghost use Rattle.cf_input.specs.Sessions.{script_in, AreNamed};
-ghost use Rattle.cf_input.specs.WatchFile.{watch_of};
-ghost use Rattle.cf_wires.specs.Log.{is_real};
+ghost use Rattle.cf_walk.specs.{blocks_at, CountsLoad, ReadsAs};
+ghost use Rattle.cf_input.specs.{proof_file_of, session_of, script_in, AreNamed, watch_of};
+ghost use Rattle.cf_wires.specs.{is_real};
 ghost use Rattle.cf_loading.specs.Scanning.{IsScanOf, TellsScan};
 ghost use Rattle.cf_loading.specs.Verdicts.{CountsFile, IsReadAs, IsUnloaded, IsUnread, IsOfFile, watch_verdict, session_verdict, blocks_verdict, proof_verdict};
 

@@ -1,13 +1,10 @@
 //! The scan of the blocks that a source gives, one by one.
 ghost use Rattle.std.specs.Prelude.{◌≡◌, ℕ, List, Some, length, IfOk, string_bytes};
 ghost use Rattle.cf_block.specs.declared.tx.Block.{Block};
-ghost use Rattle.cf_block.specs.Commitment.{AreTxids};
+ghost use Rattle.cf_block.specs.{AreTxids};
 ghost use Rattle.cf_conn.specs.Steps.{Steps};
-ghost use Rattle.cf_walk.specs.Judging.{StandsOn};
-ghost use Rattle.cf_walk.specs.Striding.{CountsLoad};
-ghost use Rattle.cf_scan.specs.Extracts.{after_placed};
-ghost use Rattle.cf_scan.specs.Extract.{extract_of};
-ghost use Rattle.cf_scan.specs.HistoryText.{history_text};
+ghost use Rattle.cf_walk.specs.{StandsOn, CountsLoad};
+ghost use Rattle.cf_scan.specs.{after_placed, extract_of, history_text};
 ghost use Rattle.cf_loading.specs.Scanning.{TellsScan};
 
 use cf_block::Block;

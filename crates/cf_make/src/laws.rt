@@ -2,11 +2,8 @@
 ghost use Rattle.std.specs.Prelude.{◌≡◌, ◌≤◌, ◌<◌, ◌+◌, ℕ, Bool, false, List, [], length, take};
 ghost use Rattle.std.specs.List.{flat_map, AllByRecursion};
 ghost use Rattle.cf_block.specs.declared.tx.Block.{Block};
-ghost use Rattle.cf_block.specs.Commitment.{spelled_txs};
-ghost use Rattle.cf_block.specs.Merkle.{NoClash};
-ghost use Rattle.cf_block.specs.Stored.{IsStored};
-ghost use Rattle.cf_block.specs.Tx.{block_spelling};
-ghost use Rattle.cf_chain.specs.Good.{max_height, IsGoodChain};
+ghost use Rattle.cf_block.specs.{spelled_txs, NoClash, IsStored, block_spelling};
+ghost use Rattle.cf_chain.specs.{max_height, IsGoodChain};
 ghost use Rattle.cf_make.specs.Made.{seed_limit, IsExtension, StopsAt, IsMadeChain};
 ghost use Rattle.cf_make.specs.Records.{records_of, text_of, made_records_of};
 

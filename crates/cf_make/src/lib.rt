@@ -1,4 +1,4 @@
-//! Made chains, for tests: chains of regtest that a seed tells.
+//! Made chains of regtest, told by a seed: for `make`, `demo` and tests.
 #![tactic(auto)]
 
 mod copying;

@@ -1,6 +1,6 @@
 //! The making of chains.
 ghost use Rattle.std.specs.Prelude.{◌≡◌, ◌≤◌, ◌<◌, ◌+◌, [], length, take};
-ghost use Rattle.cf_chain.specs.Good.{max_height};
+ghost use Rattle.cf_chain.specs.{max_height};
 ghost use Rattle.cf_make.specs.Made.{seed_limit, tip_of, genesis_tip, tip_after, first_coin, Extends};
 
 use crate::copying::copy_blocks;

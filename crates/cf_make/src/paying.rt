@@ -1,6 +1,6 @@
 //! The outputs of made chains.
 ghost use Rattle.std.specs.Prelude.{◌≡◌, pos, nat_abs, ◌≤ℤ◌, IfOk};
-ghost use Rattle.cf_block.specs.Output.{max_value};
+ghost use Rattle.cf_block.specs.{max_value};
 ghost use Rattle.cf_make.specs.Made.{script_of, paid_to};
 
 use cf_block::{Script, TxOut};

@@ -1,7 +1,7 @@
 //! The bytes of a block whose coinbase has a witness.
 ghost use Rattle.std.specs.Prelude.{◌≡◌, ◌++◌, OnOk};
 ghost use Rattle.std.specs.List.{flat_map};
-ghost use Rattle.cf_block.specs.Tx.{tx_spelling};
+ghost use Rattle.cf_block.specs.{tx_spelling};
 ghost use Rattle.cf_make.specs.Records.{with_witness, witness_spelling, text_of};
 
 use cf_block::{Block, Tx, write_block, write_header, write_tx, write_with_witness};

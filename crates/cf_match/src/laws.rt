@@ -1,9 +1,9 @@
 //! Laws of verdicts: functions that do nothing, whose contracts say them.
 ghost use Rattle.std.specs.Prelude.{◌≡◌, ◌≤◌, ℕ, false, List, Contains, Some, length};
-ghost use Rattle.cf_bytes.specs.Cut.{IsBytes};
+ghost use Rattle.cf_bytes.specs.{IsBytes};
 ghost use Rattle.cf_bytes.specs.declared.hash.Hash32.{Hash32};
-ghost use Rattle.cf_golomb.specs.Code.{HasSpelling, spelling};
-ghost use Rattle.cf_filter.specs.Filter.{basic_filter_of, has_value_of};
+ghost use Rattle.cf_golomb.specs.{HasSpelling, spelling};
+ghost use Rattle.cf_filter.specs.{basic_filter_of, has_value_of};
 ghost use Rattle.cf_match.specs.declared.job.Job.{Job};
 ghost use Rattle.cf_match.specs.declared.job.Verdict.{Verdict};
 ghost use Rattle.cf_match.specs.declared.job.Verdict.TheVariants.{Miss};

@@ -1,8 +1,8 @@
 //! What holds of messages and their frames, whoever reads and writes them.
 ghost use Rattle.std.specs.Prelude.{◌≡◌, ◌↔◌, ◌≤◌, length, Ok, Err};
 ghost use Rattle.cf_frame.specs.declared.frame.Frame.{Frame};
-ghost use Rattle.cf_frame.specs.Frame.{IsFrame};
-ghost use Rattle.cf_bytes.specs.Cut.{IsBytes};
+ghost use Rattle.cf_frame.specs.{IsFrame};
+ghost use Rattle.cf_bytes.specs.{IsBytes};
 ghost use Rattle.cf_msg.specs.declared.msg.Msg.{Msg};
 ghost use Rattle.cf_msg.specs.declared.msg.Malformed.{Malformed};
 ghost use Rattle.cf_msg.specs.Message.{HasSpelling, IsWithinLimits, Spells, frame_of, payload_of};

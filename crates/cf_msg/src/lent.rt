@@ -1,7 +1,7 @@
 //! Frames of what is lent: a message holds its block, and so can't be made of one that is only lent.
 ghost use Rattle.std.specs.Prelude.{◌≡◌, IfOk};
-ghost use Rattle.cf_block.specs.Tx.{IsBlock};
-ghost use Rattle.cf_frame.specs.Frame.{IsFrame};
+ghost use Rattle.cf_block.specs.{IsBlock};
+ghost use Rattle.cf_frame.specs.{IsFrame};
 ghost use Rattle.cf_msg.specs.declared.msg.Msg.TheVariants.{Block as BlockMessage};
 ghost use Rattle.cf_msg.specs.Message.{frame_of};
 

@@ -1,7 +1,6 @@
 //! Reading messages.
 ghost use Rattle.std.specs.Prelude.{◌≡◌};
-ghost use Rattle.cf_bytes.specs.Cut.{Reads, Gives};
-ghost use Rattle.cf_bytes.specs.Lists.{list_at, counted_bytes_at};
+ghost use Rattle.cf_bytes.specs.{Reads, Gives, list_at, counted_bytes_at};
 ghost use Rattle.cf_msg.specs.Reading.{Answers, of_cut, port_at, address_at, byte_or_none_at, count_at, hash_item_at, header_item_at, entry_at, entries_at, filter_hashes_at, version_at, ping_at, pong_at, getheaders_at, headers_at, getdata_at, inv_at, block_message_at, getcfilters_at, cfilter_at, getcfheaders_at, cfheaders_at, getcfcheckpt_at, cfcheckpt_at, fields_at, whole_at, message_of};
 
 use crate::command::{Kind, kind_of};

@@ -2,8 +2,8 @@
 ghost use Rattle.std.specs.Prelude.{◌≡◌, ◌≤◌, ◌++◌, ◌∷◌, length, IfOk, OnOk};
 ghost use Rattle.std.specs.List.{flat_map};
 ghost use Rattle.std.specs.Int.{w32, w64, to_le_bytes};
-ghost use Rattle.cf_bytes.specs.Lists.{counted_bytes};
-ghost use Rattle.cf_frame.specs.Frame.{IsFrame};
+ghost use Rattle.cf_bytes.specs.{counted_bytes};
+ghost use Rattle.cf_frame.specs.{IsFrame};
 ghost use Rattle.cf_msg.specs.Message.{IsWithinLimits, address_spelling, byte_or_none, command_of as command_of_message, counted_list, entry_spelling, frame_of, hash_spelling, item_spelling, payload_of};
 
 use crate::command::{

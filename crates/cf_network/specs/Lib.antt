@@ -1,1 +1,2 @@
 pub mod Standing
+pub use Rattle.cf_network.specs.Standing.{HasThreads}

@@ -1,9 +1,9 @@
 //! Wires that tell the user what passes them.
 ghost use Rattle.std.specs.Prelude.{◌≡◌, ◌⊎◌, min, IfOk, None, [], false};
-ghost use Rattle.cf_bytes.specs.Outside.{HasRisen};
-ghost use Rattle.cf_hub.specs.Book.{told_of, keeps_of};
+ghost use Rattle.cf_bytes.specs.{HasRisen};
+ghost use Rattle.cf_hub.specs.{told_of, keeps_of};
 ghost use Rattle.cf_network.specs.Standing.{HasThreads};
-ghost use Rattle.cf_wires.specs.Log.{Tells};
+ghost use Rattle.cf_wires.specs.{Tells};
 
 use crate::outside::SystemDialer;
 use crate::passed::{Asked, FilterSpan, Passed, Progress, Stand};
@@ -39,8 +39,7 @@ pub struct Network<R: Wait + Threads + Copy + Drop> {
 
 impl<R: Wait + Threads + Copy + Drop> Model for Network<R> {
     ghost use Rattle.std.specs.Prelude.{◌+◌};
-    ghost use Rattle.cf_hub.specs.Book.{told_of, keeps_of};
-    ghost use Rattle.cf_hub.specs.Writers.{faults_in};
+    ghost use Rattle.cf_hub.specs.{told_of, keeps_of, faults_in};
     ghost use Rattle.cf_network.specs.Standing.{Standing};
 
     ghost Value = { Standing };

@@ -1,3 +1,4 @@
 pub mod Making
 pub mod Proving
 pub mod Reading
+pub use Rattle.cf_offline.specs.Reading.{CountsOut}

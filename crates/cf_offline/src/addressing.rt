@@ -1,8 +1,8 @@
 //! Addresses and scripts, told for one another.
 ghost use Rattle.std.specs.Prelude.{◌≡◌, ◌++◌, ◌∷◌, [], IfOk, false, string_bytes};
 ghost use Rattle.cf_offline.specs.Reading.{CountsOut, IsAddressed, IsOfText};
-ghost use Rattle.cf_loading.specs.Verdicts.{IsJudged, no_file};
-ghost use Rattle.cf_answers.specs.Statuses.{has_run};
+ghost use Rattle.cf_loading.specs.{IsJudged, no_file};
+ghost use Rattle.cf_answers.specs.{has_run};
 
 use crate::reading::write;
 use cf_answers::Status;

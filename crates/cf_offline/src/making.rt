@@ -1,7 +1,6 @@
 //! A made chain, written to a block file.
 ghost use Rattle.std.specs.Prelude.{◌≡◌, Some};
-ghost use Rattle.cf_bytes.specs.Files.{IsAtMostWritten};
-ghost use Rattle.cf_bytes.specs.Outside.{HasRisen};
+ghost use Rattle.cf_bytes.specs.{IsAtMostWritten, HasRisen};
 ghost use Rattle.cf_offline.specs.Making.{IsMaking};
 
 use cf_answers::Status;

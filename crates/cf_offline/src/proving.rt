@@ -2,17 +2,16 @@
 ghost use Rattle.std.specs.Prelude.{◌≡◌, ◌<◌, ◌≤◌, false, length, IfOk, IfSome, option_map, string_bytes};
 ghost use Rattle.std.specs.FinMap as finite;
 ghost use Rattle.hex.specs.Hex.{IsBytes};
-ghost use Rattle.cf_block.specs.Tx.{tx_spelling};
-ghost use Rattle.cf_bytes.specs.Files.{IsRead};
-ghost use Rattle.cf_bytes.specs.Outside.{HasRisen};
-ghost use Rattle.cf_chain.specs.Good.{IsGoodChain};
-ghost use Rattle.cf_conn.specs.Opened.{IsReadByParts};
+ghost use Rattle.cf_block.specs.{tx_spelling};
+ghost use Rattle.cf_bytes.specs.{IsRead, HasRisen};
+ghost use Rattle.cf_chain.specs.{IsGoodChain};
+ghost use Rattle.cf_conn.specs.{IsReadByParts};
 ghost use Rattle.cf_offline.specs.Proving.{proof_text, in_text, IsTextAt, GivesProofText, TellsProof, Checks, IsOfFind, IsOfProve, IsProved, IsChecked};
 ghost use Rattle.cf_offline.specs.Reading.{CountsOut, IsOfScan, IsOfText, IsWritten};
-ghost use Rattle.cf_index.specs.Finding.{first_place, StandsAt};
-ghost use Rattle.cf_input.specs.ProofFile.{proof_file_of};
-ghost use Rattle.cf_loading.specs.Verdicts.{IsJudged, blocks_verdict, proof_verdict};
-ghost use Rattle.cf_answers.specs.Statuses.{has_run};
+ghost use Rattle.cf_index.specs.{first_place, StandsAt};
+ghost use Rattle.cf_input.specs.{proof_file_of};
+ghost use Rattle.cf_loading.specs.{IsJudged, blocks_verdict, proof_verdict};
+ghost use Rattle.cf_answers.specs.{has_run};
 
 use crate::reading::{bytes_line, write};
 use cf_answers::Status;

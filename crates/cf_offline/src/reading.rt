@@ -2,14 +2,12 @@
 ghost use Rattle.std.specs.Prelude.{◌≡◌, [], ◌∷◌, false, length, nat_lt, IfOk, IfSome, option_map, string_bytes};
 ghost use Rattle.std.specs.FinMap as finite;
 ghost use Rattle.hex.specs.Hex.{encode_lower};
-ghost use Rattle.cf_bytes.specs.Hash.{shown};
-ghost use Rattle.cf_bytes.specs.Outside.{HasRisen};
-ghost use Rattle.cf_chain.specs.Filters.{filter_at as filter_in};
-ghost use Rattle.cf_conn.specs.Opened.{IsReadByParts};
-ghost use Rattle.cf_loading.specs.Asking.{AreRead, Whole, ByParts};
+ghost use Rattle.cf_bytes.specs.{shown, HasRisen};
+ghost use Rattle.cf_chain.specs.{filter_at as filter_in};
+ghost use Rattle.cf_conn.specs.{IsReadByParts};
+ghost use Rattle.cf_loading.specs.{AreRead, Whole, ByParts, IsJudged, and_then, watch_verdict, blocks_verdict};
 ghost use Rattle.cf_offline.specs.Reading.{CountsOut, IsFiltered, IsOfFilter, IsOfHeight, IsOfText, IsScanned, IsWritten, TellsHeight, filter_text, named_line};
-ghost use Rattle.cf_loading.specs.Verdicts.{IsJudged, and_then, watch_verdict, blocks_verdict};
-ghost use Rattle.cf_answers.specs.Statuses.{has_run};
+ghost use Rattle.cf_answers.specs.{has_run};
 
 use cf_answers::Status;
 use cf_bytes::{Files, Hash32, NoMemory, Sink, put_all, show};

@@ -1,8 +1,8 @@
 //! The task that reads a source and sends its pieces.
 ghost use Rattle.std.specs.Prelude.{◌≡◌, ◌⊎◌, ◌++◌, ◌∷◌, [], true, false, MatchBool};
-ghost use Rattle.cf_bytes.specs.Outside.{HasRisen};
+ghost use Rattle.cf_bytes.specs.{HasRisen};
 ghost use Rattle.cf_outside.specs.declared.entry.Kind.TheVariants.{Last};
-ghost use Rattle.cf_tasks.specs.Queue.{entry};
+ghost use Rattle.cf_tasks.specs.{entry};
 ghost use Rattle.crossbeam_channel.specs.Claims.{view};
 ghost use Rattle.crossbeam_channel.specs.Ends.{sends_on};
 ghost use Rattle.cf_outside.specs.Pieces.{Goes, Stops, Reads, HasStopped};

@@ -1,6 +1,6 @@
 //! The task that waits, and sends how long.
 ghost use Rattle.std.specs.Prelude.{◌≡◌, ◌⊎◌, ◌++◌, ◌∷◌, [], true, false, MatchBool};
-ghost use Rattle.cf_bytes.specs.Outside.{with_more};
+ghost use Rattle.cf_bytes.specs.{with_more};
 ghost use Rattle.crossbeam_channel.specs.Claims.{view};
 ghost use Rattle.crossbeam_channel.specs.Ends.{sends_on};
 ghost use Rattle.cf_outside.specs.Pieces.{HasStopped};

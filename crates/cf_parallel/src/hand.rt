@@ -1,8 +1,8 @@
 //! A thread that judges, as seen by what hands parts over to it.
 ghost use Rattle.std.specs.Prelude.{◌≡◌, map, IfOk, IfSome, IfNone, OnOk};
-ghost use Rattle.cf_bytes.specs.Outside.{HasRisen};
-ghost use Rattle.cf_tasks.specs.Starting.{IsPut};
-ghost use Rattle.cf_match.specs.Verdicts.{verdict_of};
+ghost use Rattle.cf_bytes.specs.{HasRisen};
+ghost use Rattle.cf_tasks.specs.{IsPut};
+ghost use Rattle.cf_match.specs.{verdict_of};
 
 use crate::gate::Gate;
 use crate::same::are_same_scripts;

@@ -1,6 +1,6 @@
 //! Filters in memory of their own, without an allocation for each.
 ghost use Rattle.std.specs.Prelude.{◌≡◌, true, map, length, IfOk};
-ghost use Rattle.cf_match.specs.Verdicts.{verdict_of};
+ghost use Rattle.cf_match.specs.{verdict_of};
 ghost use Rattle.cf_parallel.specs.Packing.{first_of, rest_of, unpacked};
 
 use cf_bytes::{Hash32, NoMemory};

@@ -1,8 +1,8 @@
 //! The matcher of several threads.
 ghost use Rattle.std.specs.Prelude.{◌≡◌, ◌<◌, ◌≤◌, ◌-◌, map, IfOk, IfSome};
 ghost use Rattle.std.specs.Arc.{arc_value};
-ghost use Rattle.cf_tasks.specs.Starting.{ArePut};
-ghost use Rattle.cf_match.specs.Verdicts.{verdict_of};
+ghost use Rattle.cf_tasks.specs.{ArePut};
+ghost use Rattle.cf_match.specs.{verdict_of};
 ghost use Rattle.cf_parallel.specs.Parts.{part_of, in_parts, joined};
 ghost use Rattle.cf_parallel.specs.Sharing.{HasStarted};
 

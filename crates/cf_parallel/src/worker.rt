@@ -1,7 +1,7 @@
 //! A thread that judges parts of batches.
 ghost use Rattle.std.specs.Prelude.{◌≡◌, map, IfOk};
 ghost use Rattle.std.specs.Arc.{arc_value};
-ghost use Rattle.cf_match.specs.Verdicts.{verdict_of};
+ghost use Rattle.cf_match.specs.{verdict_of};
 
 use crate::gate::Gate;
 use crate::packed::Packed;

@@ -28,7 +28,8 @@ pub data Why : Type 0 where
   Failing : Why
   Shutting : Why
 
--- what may pass between the client and one peer
+-- What may pass between the client and one peer: it was dialled; it said a message; a frame of it, or its bytes, deserve a cause; it was sent a message, be it
+-- a question or a reply; so many seconds have passed; it was lost.
 pub data Item : Type 0 where
   Called : Item
   Said : (m : Msg) → Item

@@ -2,8 +2,8 @@
 ghost use Rattle.std.specs.Prelude.{◌≡◌, ◌<◌, ℕ, List, nat_le, IfOk, OnOk, OnErr, true, length, slice_index_or};
 ghost use Rattle.cf_bytes.specs.declared.hash.Hash32.{Hash32};
 ghost use Rattle.cf_msg.specs.declared.msg.Msg.TheVariants.{Cfilter};
-ghost use Rattle.cf_dispute.specs.Of.{tables_of};
-ghost use Rattle.cf_filter.specs.Filter.{filter_hash_of};
+ghost use Rattle.cf_dispute.specs.{tables_of};
+ghost use Rattle.cf_filter.specs.{filter_hash_of};
 ghost use Rattle.cf_peer.specs.Trail.{Trail};
 ghost use Rattle.cf_peer.specs.Asking.{claims as claims_in, filter_of, is_this, hash_claimed};
 ghost use Rattle.cf_peer.specs.declared.peer.Batch.{Batch};

@@ -1,4 +1,5 @@
-//! One peer of the client: what the client keeps of it, and what it makes of what comes from it.
+//! One connected peer: its framer, its handshake and its one open request; and the client's words: Act, Cause, Mode and
+//! Reaction.
 #![tactic(auto)]
 
 mod act;

@@ -1,4 +1,4 @@
-//! What the client keeps of each peer's number, and what it says of the log.
+//! The place of each peer's number: a connected peer, or how it was lost; and the state that the places show.
 #![tactic(auto)]
 
 mod place;

@@ -1,6 +1,6 @@
 //! The check of a chain that is to be served.
 ghost use Rattle.std.specs.Prelude.{◌≡◌, IfOk};
-ghost use Rattle.cf_chain.specs.Good.{IsGoodChain};
+ghost use Rattle.cf_chain.specs.{IsGoodChain};
 ghost use Rattle.cf_played.specs.Told.{IfRefused};
 
 use cf_bytes::Refused;

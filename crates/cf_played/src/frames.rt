@@ -1,10 +1,10 @@
 //! The frames of messages, and of the machine's replies.
 ghost use Rattle.std.specs.Prelude.{◌≡◌, ◌<◌, ◌^◌, ◌++◌, IfOk, OnOk};
-ghost use Rattle.cf_frame.specs.Frame.{spelling};
-ghost use Rattle.cf_msg.specs.Message.{frame_of};
-ghost use Rattle.cf_peer.specs.Acts.{IsSendable};
+ghost use Rattle.cf_frame.specs.{spelling};
+ghost use Rattle.cf_msg.specs.{frame_of};
+ghost use Rattle.cf_peer.specs.{IsSendable};
 ghost use Rattle.cf_played.specs.Frames.{IsFrameAlike, IsInRange, machine};
-ghost use Rattle.cf_server.specs.Replies.{IsReplyOf, message_of};
+ghost use Rattle.cf_server.specs.{IsReplyOf, message_of};
 
 use cf_bytes::NoMemory;
 use cf_frame::encode;

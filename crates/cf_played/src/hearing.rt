@@ -1,6 +1,6 @@
 //! What the bytes of one send say.
 ghost use Rattle.std.specs.Prelude.{◌≡◌, IfOk};
-ghost use Rattle.cf_peer.specs.Trail.{spelled};
+ghost use Rattle.cf_peer.specs.{spelled};
 ghost use Rattle.cf_played.specs.Hearing.{IsWholeFrame};
 
 use cf_bytes::{NoMemory, Refused};

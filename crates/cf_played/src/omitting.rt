@@ -1,11 +1,11 @@
 //! Filters that leave scripts out, and the messages that tell of them (BIP 158, "Contents"; BIP 157, "New Messages").
 ghost use Rattle.std.specs.Prelude.{◌≡◌, ◌≤◌, ◌<◌, ◌+◌, Bool, true, length, IfOk, IfSome, OnOk};
 ghost use Rattle.std.specs.List.{AllByRecursion};
-ghost use Rattle.cf_block.specs.Header.{IsHash};
-ghost use Rattle.cf_chain.specs.Good.{max_height};
+ghost use Rattle.cf_block.specs.{IsHash};
+ghost use Rattle.cf_chain.specs.{max_height};
 ghost use Rattle.cf_played.specs.Answers.{is_filtering};
 ghost use Rattle.cf_played.specs.Frames.{AreFramesAlike, IsFrameAlike, IsOther, machine};
-ghost use Rattle.cf_server.specs.Replies.{IsReplyOf, AreRepliesOf, message_of, messages_of};
+ghost use Rattle.cf_server.specs.{IsReplyOf, AreRepliesOf, message_of, messages_of};
 
 use crate::filtered::Filtered;
 use crate::frames::{message_frame, own_frame, put_frame};

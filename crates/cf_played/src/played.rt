@@ -3,9 +3,10 @@ ghost use Rattle.std.specs.Prelude.{◌≡◌, ◌≢◌, ◌≤◌, ◌<◌, �
 ghost use Rattle.std.specs.List.{count_by, list_all};
 ghost use Rattle.cf_wires.specs.declared.event.Delivery.TheVariants.{Tick};
 ghost use Rattle.cf_wires.specs.declared.event.Event.TheVariants.{Closed, Took};
-ghost use Rattle.cf_wires.specs.Log.{Log, tally_of};
+ghost use Rattle.cf_wires.specs.{tally_of};
+ghost use Rattle.cf_wires.specs.Log.{Log};
 ghost use Rattle.cf_played.specs.Answers.{is_staying};
-ghost use Rattle.cf_peer.specs.Trail.{spelled};
+ghost use Rattle.cf_peer.specs.{spelled};
 ghost use Rattle.cf_played.specs.Peers.{AreGood, shown};
 ghost use Rattle.cf_played.specs.Players.{AreAccounted, Gives, HearsAt};
 ghost use Rattle.cf_played.specs.Turns.{last_served};
@@ -157,8 +158,8 @@ fn give_at(alloc: Global, players: &mut [Player], place: usize) -> Result<Given,
 }
 
 impl Played {
-    ghost use Rattle.cf_wires.specs.Log.{Tells};
-    ghost use Rattle.cf_chain.specs.Good.{IsGoodChain};
+    ghost use Rattle.cf_wires.specs.{Tells};
+    ghost use Rattle.cf_chain.specs.{IsGoodChain};
     ghost use Rattle.cf_played.specs.Peers.{Peer, made_of, still};
     ghost use Rattle.cf_played.specs.Told.{HasAdded, IfRefused, log_of, told_of, keeps_of, finished_of, peers_of};
     ghost use Rattle.cf_played.specs.Answers.{came, told_to, answered_to, is_plain, HasBegun, HasAnswered};
@@ -248,9 +249,7 @@ impl Played {
 
 impl Wires for Played {
     ghost use Rattle.cf_wires.specs.declared.event.Event.TheVariants.{Dialled, NotDialled, Sent, SendFailed};
-    ghost use Rattle.cf_wires.specs.Log.{tell};
-    ghost use Rattle.cf_wires.specs.Wires.{HasCause};
-    ghost use Rattle.cf_wires.specs.Log.{Tells, told_finished, was_closed};
+    ghost use Rattle.cf_wires.specs.{tell, HasCause, Tells, told_finished, was_closed};
     ghost use Rattle.cf_played.specs.Peers.{HasMore, made_of};
     ghost use Rattle.cf_played.specs.Told.{log_of, told_of, keeps_of, peers_of};
     ghost use Rattle.cf_played.specs.Turns.{IsNext};

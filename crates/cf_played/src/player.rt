@@ -1,12 +1,11 @@
 //! One peer in memory.
 ghost use Rattle.std.specs.Prelude.{◌≡◌, ◌∷◌, pos, true, Some, OnOk, OnErr, IfOk, [], if◌then◌else◌};
-ghost use Rattle.cf_chain.specs.Serve.{is_version as version_is, replies_to};
-ghost use Rattle.cf_peer.specs.Trail.{spelled};
+ghost use Rattle.cf_chain.specs.{is_version as version_is, replies_to};
+ghost use Rattle.cf_peer.specs.{spelled};
 ghost use Rattle.cf_played.specs.Answers.{is_answered as is_heard, frames_from, heard_of, is_plain};
 ghost use Rattle.cf_played.specs.Frames.{AreFramesAlike, machine};
 ghost use Rattle.cf_played.specs.Players.{IsAnswered};
-ghost use Rattle.cf_server.specs.Replies.{AreRepliesOf, messages_of};
-ghost use Rattle.cf_server.specs.Serving.{text_of};
+ghost use Rattle.cf_server.specs.{AreRepliesOf, messages_of, text_of};
 
 use crate::filtered::Filtered;
 use crate::frames::{own_frame, put_frame};

@@ -1,9 +1,8 @@
 //! Checking proofs.
 ghost use Rattle.std.specs.Prelude.{◌≡◌, ◌*◌, ◌<◌, ◌≤◌, ◌++◌, length, nat_eq, IfOk, OnOk, Some, None};
-ghost use Rattle.cf_block.specs.Tx.{tx_spelling, txid_of};
+ghost use Rattle.cf_block.specs.{tx_spelling, txid_of, bytes_of};
 ghost use Rattle.cf_proof.specs.Proof.{flags_of, flags_of_byte};
 ghost use Rattle.cf_proof.specs.Checks.{Answers, sized_fault, walk_fault, root_fault as fault_at_root, walk_of};
-ghost use Rattle.cf_block.specs.Views.{bytes_of};
 
 use crate::fault::ProofFault;
 use crate::proof::Proof;

@@ -1,10 +1,7 @@
 //! Making proofs.
 ghost use Rattle.std.specs.Prelude.{◌≡◌, ◌+◌, ◌*◌, ◌<◌, ◌≤◌, ◌^◌, ◌++◌, ◌∷◌, [], ◌-◌, length, replicate, false, IfOk, OnOk};
 ghost use Rattle.std.specs.List.{flat_map};
-ghost use Rattle.cf_block.specs.Tx.{txid_of};
-ghost use Rattle.cf_block.specs.Merkle.{txids};
-ghost use Rattle.cf_block.specs.Commitment.{spelled_txs, AreTxids};
-ghost use Rattle.cf_block.specs.Views.{bytes_of};
+ghost use Rattle.cf_block.specs.{txid_of, txids, spelled_txs, AreTxids, bytes_of};
 ghost use Rattle.cf_proof.specs.Tree.{node_at};
 ghost use Rattle.cf_proof.specs.Proof.{flags_of, proof_spelling};
 ghost use Rattle.cf_proof.specs.Steps.{low_bits};

@@ -1,9 +1,6 @@
 //! Reading proofs.
 ghost use Rattle.std.specs.Prelude.{◌≡◌};
-ghost use Rattle.cf_bytes.specs.Cut.{Reads, Gives};
-ghost use Rattle.cf_bytes.specs.Lists.{list_at, counted_bytes_at};
-ghost use Rattle.cf_bytes.specs.Compact.{compact_at};
-ghost use Rattle.cf_bytes.specs.Cut.{number_at};
+ghost use Rattle.cf_bytes.specs.{Reads, Gives, list_at, counted_bytes_at, compact_at, number_at};
 ghost use Rattle.std.specs.Int.{w32};
 ghost use Rattle.cf_proof.specs.Proof.{field_at, header_field_at, hash_field_at, fields_at, proof_at};
 ghost use Rattle.cf_proof.specs.Steps.{GivesProof};

@@ -2,8 +2,8 @@
 ghost use Rattle.std.specs.Prelude.{◌≡◌, ◌+◌, ◌*◌, ◌≤◌, ◌<◌, ◌^◌, ◌++◌, ◌∷◌, ◌||◌, [], MatchOption, Some, None, nat_eq, Bool};
 ghost use Rattle.std.specs.List.{flat_map};
 ghost use Rattle.std.specs.Cmp.Lexicographic.{pointwise};
-ghost use Rattle.cf_bytes.specs.Hash.{hash_of};
-ghost use Rattle.cf_block.specs.Views.{bytes_of};
+ghost use Rattle.cf_bytes.specs.{hash_of};
+ghost use Rattle.cf_block.specs.{bytes_of};
 ghost use Rattle.cf_proof.specs.Tree.{height_of as root_height, is_there as is_node};
 ghost use Rattle.cf_proof.specs.Walk.{walk as walk_from, with_hash as node_with_hash};
 ghost use Rattle.cf_proof.specs.Steps.{IsNodeOf};

@@ -1,6 +1,6 @@
 //! Calls of the program.
 ghost use Rattle.std.specs.Prelude.{◌≡◌, [], false};
-ghost use Rattle.cf_wires.specs.Log.{Tells};
+ghost use Rattle.cf_wires.specs.{Tells};
 
 use crate::host::Host;
 use cf_answers::Status;

@@ -15,7 +15,7 @@ use Rattle.cf_wires.specs.declared.event.Dial.{Dial}
 use Rattle.cf_wires.specs.declared.event.Event.{Event}
 use Rattle.cf_wires.specs.declared.event.Event.TheVariants.{Dialled, NotDialled, Sent, SendFailed, Closed, Took}
 use Rattle.cf_wires.specs.declared.event.Mark.{Mark}
-use Rattle.cf_wires.specs.declared.event.Mark.TheVariants.{NotYet, Called, Missed, Left, Shut, Broken}
+use Rattle.cf_wires.specs.declared.event.Mark.TheVariants as mark
 use Rattle.cf_wires.specs.Log.{Log, Told, Tally, Tells, tally_of, tell, dials}
 use Rattle.cf_peer.specs.Trail.{Trail, Part, Why, Lost, Failing, Shutting, Went, heard_part, called_part, with_item, part_of, trail, went_on, connected, ready}
 use Rattle.cf_peer.specs.Asking.{is_open, is_idle, request}
@@ -315,32 +315,32 @@ took_closed Ended t = refl
 
 -- the tally says who is connected
 abbrev is_called : Mark → Bool
-is_called Called = true
+is_called mark.Dialled = true
 is_called _ = false
 
-lost_by : (m : Mark) → m ≢ NotYet → is_called m ≡ false → m ≢ Broken → is_lost m ≡ true
-lost_by NotYet n c b = absurd (n refl)
-lost_by Called n c b = absurd (false≢true (sym c))
-lost_by Missed n c b = refl
-lost_by Left n c b = refl
-lost_by Shut n c b = refl
-lost_by Broken n c b = absurd (b refl)
+lost_by : (m : Mark) → m ≢ mark.NotYet → is_called m ≡ false → m ≢ mark.SendFailed → is_lost m ≡ true
+lost_by mark.NotYet n c b = absurd (n refl)
+lost_by mark.Dialled n c b = absurd (false≢true (sym c))
+lost_by mark.NotDialled n c b = refl
+lost_by mark.Gone n c b = refl
+lost_by mark.Closed n c b = refl
+lost_by mark.SendFailed n c b = absurd (b refl)
 
 called_not : (m : Mark) → is_lost m ≡ true → is_called m ≡ false
-called_not NotYet h = refl
-called_not Called h = absurd (false≢true h)
-called_not Missed h = refl
-called_not Left h = refl
-called_not Shut h = refl
-called_not Broken h = refl
+called_not mark.NotYet h = refl
+called_not mark.Dialled h = absurd (false≢true h)
+called_not mark.NotDialled h = refl
+called_not mark.Gone h = refl
+called_not mark.Closed h = refl
+called_not mark.SendFailed h = refl
 
-fresh_mark : (k p : ℕ) → get_or (replicate k NotYet) p NotYet ≡ NotYet
+fresh_mark : (k p : ℕ) → get_or (replicate k mark.NotYet) p mark.NotYet ≡ mark.NotYet
 fresh_mark zero p = refl
 fresh_mark (suc k) zero = refl
 fresh_mark (suc k) (suc p) = fresh_mark k p
 
-mark_set : (marks : List Mark) (i p : ℕ) (m : Mark) (y : Bool) → p < 9 → length marks ≡ 9 → is_called (get_or marks p NotYet) ≡ y
-    → is_called (get_or (set marks i m) p NotYet) ≡ (if i == p then is_called m else y)
+mark_set : (marks : List Mark) (i p : ℕ) (m : Mark) (y : Bool) → p < 9 → length marks ≡ 9 → is_called (get_or marks p mark.NotYet) ≡ y
+    → is_called (get_or (set marks i m) p mark.NotYet) ≡ (if i == p then is_called m else y)
 mark_set marks i p m y lt size is = elim (cases_eq p i) [
   | inl e ↦ grind (arith, common_steps)
   | inr ne ↦ grind (arith, common_steps)
@@ -356,30 +356,30 @@ kept_size marks i m size = grind (arith, common_steps)
 -- the tally has as many marks, and this peer's says whether it is connected
 record Marks (log : Log) (p : ℕ) : Type 0 where
   pub size : length (tally_of log).marks ≡ 9
-  pub says : is_called (get_or (tally_of log).marks p NotYet) ≡ connected (trail log p)
+  pub says : is_called (get_or (tally_of log).marks p mark.NotYet) ≡ connected (trail log p)
 
 mark_step : (e : Event) (log : Log) (p : ℕ) → p < 9 → Marks log p → Marks (e ∷ log) p
 mark_step (Dialled q name) log p lt before = record {
-  size = kept_size (tally_of log).marks q.0 Called before.size;
-  says = mark_set (tally_of log).marks q.0 p Called (connected (trail log p)) lt before.size before.says ∙ push_if (q.0 == p) (called_part (part_of log p)) (part_of log p);
+  size = kept_size (tally_of log).marks q.0 mark.Dialled before.size;
+  says = mark_set (tally_of log).marks q.0 p mark.Dialled (connected (trail log p)) lt before.size before.says ∙ push_if (q.0 == p) (called_part (part_of log p)) (part_of log p);
 }
 mark_step (NotDialled q name) log p lt before = record {
-  size = kept_size (tally_of log).marks q.0 Missed before.size;
-  says = mark_set (tally_of log).marks q.0 p Missed (connected (trail log p)) lt before.size before.says ∙ push_if (q.0 == p) (with_item (Lost Went) (part_of log p)) (part_of log p);
+  size = kept_size (tally_of log).marks q.0 mark.NotDialled before.size;
+  says = mark_set (tally_of log).marks q.0 p mark.NotDialled (connected (trail log p)) lt before.size before.says ∙ push_if (q.0 == p) (with_item (Lost Went) (part_of log p)) (part_of log p);
 }
 mark_step (Sent q bytes) log p lt before = record { size = before.size; says = before.says ∙ sym (sent_connected q bytes p (part_of log p)) }
 mark_step (SendFailed q) log p lt before = record {
-  size = kept_size (tally_of log).marks q.0 Broken before.size;
-  says = mark_set (tally_of log).marks q.0 p Broken (connected (trail log p)) lt before.size before.says ∙ push_if (q.0 == p) (with_item (Lost Failing) (part_of log p)) (part_of log p);
+  size = kept_size (tally_of log).marks q.0 mark.SendFailed before.size;
+  says = mark_set (tally_of log).marks q.0 p mark.SendFailed (connected (trail log p)) lt before.size before.says ∙ push_if (q.0 == p) (with_item (Lost Failing) (part_of log p)) (part_of log p);
 }
 mark_step (Closed q) log p lt before = record {
-  size = kept_size (tally_of log).marks q.0 Shut before.size;
-  says = mark_set (tally_of log).marks q.0 p Shut (connected (trail log p)) lt before.size before.says ∙ push_if (q.0 == p) (with_item (Lost Shutting) (part_of log p)) (part_of log p);
+  size = kept_size (tally_of log).marks q.0 mark.Closed before.size;
+  says = mark_set (tally_of log).marks q.0 p mark.Closed (connected (trail log p)) lt before.size before.says ∙ push_if (q.0 == p) (with_item (Lost Shutting) (part_of log p)) (part_of log p);
 }
 mark_step (Took (Got q piece)) log p lt before = record { size = before.size; says = before.says ∙ sym (got_connected (q.0 == p) piece (part_of log p)) }
 mark_step (Took (Gone q)) log p lt before = record {
-  size = kept_size (tally_of log).marks q.0 Left before.size;
-  says = mark_set (tally_of log).marks q.0 p Left (connected (trail log p)) lt before.size before.says ∙ push_if (q.0 == p) (with_item (Lost Went) (part_of log p)) (part_of log p);
+  size = kept_size (tally_of log).marks q.0 mark.Gone before.size;
+  says = mark_set (tally_of log).marks q.0 p mark.Gone (connected (trail log p)) lt before.size before.says ∙ push_if (q.0 == p) (with_item (Lost Went) (part_of log p)) (part_of log p);
 }
 mark_step (Took (Tick s)) log p lt before = record { size = before.size; says = before.says }
 mark_step (Took Ended) log p lt before = record { size = before.size; says = before.says }
@@ -463,64 +463,64 @@ numbered_on (Took (Tick s) ∷ log) p n on = numbered_on log p n on
 numbered_on (Took Ended ∷ log) p n on = numbered_on log p n on
 
 -- whoever was dialled has a mark of his own
-set_same : (marks : List Mark) (i p : ℕ) (m : Mark) → p < 9 → length marks ≡ 9 → p ≡ i → get_or (set marks i m) p NotYet ≡ m
+set_same : (marks : List Mark) (i p : ℕ) (m : Mark) → p < 9 → length marks ≡ 9 → p ≡ i → get_or (set marks i m) p mark.NotYet ≡ m
 set_same marks i p m lt size e =
-    ap (λ (k : ℕ). get_or (set marks i m) k NotYet) e ∙ get_or-set_same marks i m NotYet (omega (arith, e, size, lt))
+    ap (λ (k : ℕ). get_or (set marks i m) k mark.NotYet) e ∙ get_or-set_same marks i m mark.NotYet (omega (arith, e, size, lt))
 
-not_yet_set : (marks : List Mark) (i p : ℕ) (m : Mark) → p < 9 → length marks ≡ 9 → m ≢ NotYet
-    → (p ≢ i → get_or marks p NotYet ≢ NotYet) → get_or (set marks i m) p NotYet ≢ NotYet
+not_yet_set : (marks : List Mark) (i p : ℕ) (m : Mark) → p < 9 → length marks ≡ 9 → m ≢ mark.NotYet
+    → (p ≢ i → get_or marks p mark.NotYet ≢ mark.NotYet) → get_or (set marks i m) p mark.NotYet ≢ mark.NotYet
 not_yet_set marks i p m lt size is old = elim (cases_eq p i) [
   | inl e ↦ λ not_yet. is (sym (set_same marks i p m lt size e) ∙ not_yet)
-  | inr ne ↦ λ not_yet. old ne (sym (get_or-set_other marks i p m NotYet ne) ∙ not_yet)
+  | inr ne ↦ λ not_yet. old ne (sym (get_or-set_other marks i p m mark.NotYet ne) ∙ not_yet)
 ]
 
 below : (p n k : ℕ) → p ≤ n + 1 → k ≡ n + 1 → p ≢ k → p ≤ n
 below p n k le is ne = elim (cases_lt p (n + 1)) [ inl lt ↦ omega (arith, lt) | inr ge ↦ absurd (ne (omega (arith, ge, le, is))) ]
 
 dialled_mark : (log : Log) (p : ℕ) → AreNumbered log → 1 ≤ p → p ≤ (tally_of log).dials → p < 9
-    → get_or (tally_of log).marks p NotYet ≢ NotYet
+    → get_or (tally_of log).marks p mark.NotYet ≢ mark.NotYet
 dialled_mark [] p n one le lt = absurd (omega (arith, one, le))
 dialled_mark (Dialled q name ∷ log) p n one le lt =
-    not_yet_set (tally_of log).marks q.0 p Called lt (marks_of log p lt).size (λ e. cc e) (λ ne. dialled_mark log p n.1 one (below p (tally_of log).dials q.0 le n.0 ne) lt)
+    not_yet_set (tally_of log).marks q.0 p mark.Dialled lt (marks_of log p lt).size (λ e. cc e) (λ ne. dialled_mark log p n.1 one (below p (tally_of log).dials q.0 le n.0 ne) lt)
 dialled_mark (NotDialled q name ∷ log) p n one le lt =
-    not_yet_set (tally_of log).marks q.0 p Missed lt (marks_of log p lt).size (λ e. cc e) (λ ne. dialled_mark log p n.1 one (below p (tally_of log).dials q.0 le n.0 ne) lt)
+    not_yet_set (tally_of log).marks q.0 p mark.NotDialled lt (marks_of log p lt).size (λ e. cc e) (λ ne. dialled_mark log p n.1 one (below p (tally_of log).dials q.0 le n.0 ne) lt)
 dialled_mark (Sent q bytes ∷ log) p n one le lt = dialled_mark log p n one le lt
-dialled_mark (SendFailed q ∷ log) p n one le lt = not_yet_set (tally_of log).marks q.0 p Broken lt (marks_of log p lt).size (λ e. cc e) (λ ne. dialled_mark log p n one le lt)
-dialled_mark (Closed q ∷ log) p n one le lt = not_yet_set (tally_of log).marks q.0 p Shut lt (marks_of log p lt).size (λ e. cc e) (λ ne. dialled_mark log p n one le lt)
+dialled_mark (SendFailed q ∷ log) p n one le lt = not_yet_set (tally_of log).marks q.0 p mark.SendFailed lt (marks_of log p lt).size (λ e. cc e) (λ ne. dialled_mark log p n one le lt)
+dialled_mark (Closed q ∷ log) p n one le lt = not_yet_set (tally_of log).marks q.0 p mark.Closed lt (marks_of log p lt).size (λ e. cc e) (λ ne. dialled_mark log p n one le lt)
 dialled_mark (Took (Got q piece) ∷ log) p n one le lt = dialled_mark log p n one le lt
-dialled_mark (Took (Gone q) ∷ log) p n one le lt = not_yet_set (tally_of log).marks q.0 p Left lt (marks_of log p lt).size (λ e. cc e) (λ ne. dialled_mark log p n one le lt)
+dialled_mark (Took (Gone q) ∷ log) p n one le lt = not_yet_set (tally_of log).marks q.0 p mark.Gone lt (marks_of log p lt).size (λ e. cc e) (λ ne. dialled_mark log p n one le lt)
 dialled_mark (Took (Tick s) ∷ log) p n one le lt = dialled_mark log p n one le lt
 dialled_mark (Took Ended ∷ log) p n one le lt = dialled_mark log p n one le lt
 
 -- whose mark is that of a failed send, of him it isn't told yet
-broken_set : (marks : List Mark) (i p : ℕ) (m : Mark) → p < 9 → length marks ≡ 9 → get_or (set marks i m) p NotYet ≡ Broken
-    → ((p ≡ i) × (m ≡ Broken)) ⊎ ((p ≢ i) × (get_or marks p NotYet ≡ Broken))
+broken_set : (marks : List Mark) (i p : ℕ) (m : Mark) → p < 9 → length marks ≡ 9 → get_or (set marks i m) p mark.NotYet ≡ mark.SendFailed
+    → ((p ≡ i) × (m ≡ mark.SendFailed)) ⊎ ((p ≢ i) × (get_or marks p mark.NotYet ≡ mark.SendFailed))
 broken_set marks i p m lt size is = elim (cases_eq p i) [
   | inl e ↦ inl (e, sym (set_same marks i p m lt size e) ∙ is)
-  | inr ne ↦ inr (ne, sym (get_or-set_other marks i p m NotYet ne) ∙ is)
+  | inr ne ↦ inr (ne, sym (get_or-set_other marks i p m mark.NotYet ne) ∙ is)
 ]
 
-broken_mark : (log : Log) (p : ℕ) → p < 9 → WasOrderly log → get_or (tally_of log).marks p NotYet ≡ Broken → is_untold log p ≡ true
-broken_mark [] p lt w is = let e : NotYet ≡ Broken = sym (fresh_mark 9 p) ∙ is in cc e
-broken_mark (Dialled q name ∷ log) p lt w is = elim (broken_set (tally_of log).marks q.0 p Called lt (marks_of log p lt).size is) [
+broken_mark : (log : Log) (p : ℕ) → p < 9 → WasOrderly log → get_or (tally_of log).marks p mark.NotYet ≡ mark.SendFailed → is_untold log p ≡ true
+broken_mark [] p lt w is = let e : mark.NotYet ≡ mark.SendFailed = sym (fresh_mark 9 p) ∙ is in cc e
+broken_mark (Dialled q name ∷ log) p lt w is = elim (broken_set (tally_of log).marks q.0 p mark.Dialled lt (marks_of log p lt).size is) [
   | inl x ↦ cc x.1
   | inr x ↦ broken_mark log p lt w x.1
 ]
-broken_mark (NotDialled q name ∷ log) p lt w is = elim (broken_set (tally_of log).marks q.0 p Missed lt (marks_of log p lt).size is) [
+broken_mark (NotDialled q name ∷ log) p lt w is = elim (broken_set (tally_of log).marks q.0 p mark.NotDialled lt (marks_of log p lt).size is) [
   | inl x ↦ cc x.1
   | inr x ↦ broken_mark log p lt w x.1
 ]
 broken_mark (Sent q bytes ∷ log) p lt w is = broken_mark log p lt w is
-broken_mark (SendFailed q ∷ log) p lt w is = elim (broken_set (tally_of log).marks q.0 p Broken lt (marks_of log p lt).size is) [
+broken_mark (SendFailed q ∷ log) p lt w is = elim (broken_set (tally_of log).marks q.0 p mark.SendFailed lt (marks_of log p lt).size is) [
   | inl x ↦ untold_failing_here q log p x.0
   | inr x ↦ untold_failing_others q log p x.0 ∙ broken_mark log p lt w.1 x.1
 ]
-broken_mark (Closed q ∷ log) p lt w is = elim (broken_set (tally_of log).marks q.0 p Shut lt (marks_of log p lt).size is) [
+broken_mark (Closed q ∷ log) p lt w is = elim (broken_set (tally_of log).marks q.0 p mark.Closed lt (marks_of log p lt).size is) [
   | inl x ↦ cc x.1
   | inr x ↦ untold_closed_others q log p x.0 ∙ broken_mark log p lt w.1 x.1
 ]
 broken_mark (Took (Got q piece) ∷ log) p lt w is = absurd (both_ways (is_untold log p) (w.0.told p) (broken_mark log p lt w.1 is))
-broken_mark (Took (Gone q) ∷ log) p lt w is = elim (broken_set (tally_of log).marks q.0 p Left lt (marks_of log p lt).size is) [
+broken_mark (Took (Gone q) ∷ log) p lt w is = elim (broken_set (tally_of log).marks q.0 p mark.Gone lt (marks_of log p lt).size is) [
   | inl x ↦ cc x.1
   | inr x ↦ absurd (both_ways (is_untold log p) (w.0.told p) (broken_mark log p lt w.1 x.1))
 ]
@@ -528,8 +528,8 @@ broken_mark (Took (Tick s) ∷ log) p lt w is = absurd (both_ways (is_untold log
 broken_mark (Took Ended ∷ log) p lt w is = absurd (both_ways (is_untold log p) (w.0.told p) (broken_mark log p lt w.1 is))
 
 lost_mark : (log : Log) (p : ℕ) → AreNumbered log → WasOrderly log → IsOrderly log → connected (trail log p) ≡ false → 1 ≤ p → p ≤ (tally_of log).dials → p < 9
-    → is_lost (get_or (tally_of log).marks p NotYet) ≡ true
-lost_mark log p n was now off one le lt = lost_by (get_or (tally_of log).marks p NotYet) (dialled_mark log p n one le lt) ((marks_of log p lt).says ∙ off)
+    → is_lost (get_or (tally_of log).marks p mark.NotYet) ≡ true
+lost_mark log p n was now off one le lt = lost_by (get_or (tally_of log).marks p mark.NotYet) (dialled_mark log p n one le lt) ((marks_of log p lt).says ∙ off)
     (λ broken. both_ways (is_untold log p) (now.told p) (broken_mark log p lt was broken))
 
 nobody_left : (log : Log) → NobodyLeft (tally_of log) → AreNumbered log → (tally_of log).dials ≤ 8 → (p : ℕ) → connected (trail log p) ≡ false
@@ -537,7 +537,7 @@ nobody_left log none numbered few p = elim (cases_Bool (connected (trail log p))
   | inl on ↦
       let r = numbered_on log p numbered on in
       let lt : p < 9 = omega (arith, r.1, few) in
-      absurd (both_ways (connected (trail log p)) (sym (marks_of log p lt).says ∙ called_not (get_or (tally_of log).marks p NotYet) (none p r.0 r.1)) on)
+      absurd (both_ways (connected (trail log p)) (sym (marks_of log p lt).says ∙ called_not (get_or (tally_of log).marks p mark.NotYet) (none p r.0 r.1)) on)
   | inr off ↦ off
 ]
 

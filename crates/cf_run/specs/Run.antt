@@ -14,7 +14,7 @@ use Rattle.cf_wires.specs.declared.event.Dial.{Dial}
 use Rattle.cf_wires.specs.declared.event.Event.{Event}
 use Rattle.cf_wires.specs.declared.event.Event.TheVariants.{Dialled, NotDialled, Sent, SendFailed, Closed, Took}
 use Rattle.cf_wires.specs.declared.event.Mark.{Mark}
-use Rattle.cf_wires.specs.declared.event.Mark.TheVariants.{NotYet, Called, Missed, Left, Shut, Broken}
+use Rattle.cf_wires.specs.declared.event.Mark.TheVariants as mark
 use Rattle.cf_wires.specs.Log.{Log, Told, Tally, tally_of, mark_of, dials}
 use Rattle.cf_wires.specs.Wires.{Made}
 use Rattle.cf_peer.specs.Trail.{trail, spelled}
@@ -184,13 +184,13 @@ pub record RanTo (rule : Rule) (end : End) (height : ℕ) (hash : Hash32) (entri
 
 -- not dialled, gone or closed
 abbrev pub is_lost : Mark → Bool
-is_lost NotYet = false
-is_lost Called = false
-is_lost Missed = true
-is_lost Left = true
-is_lost Shut = true
-is_lost Broken = false
+is_lost mark.NotYet = false
+is_lost mark.Dialled = false
+is_lost mark.NotDialled = true
+is_lost mark.Gone = true
+is_lost mark.Closed = true
+is_lost mark.SendFailed = false
 
--- each peer that was dialled could not be dialled, has gone or was closed
+-- each peer that was tried was not dialled, has gone or was closed
 abbrev pub NobodyLeft : Tally → Type 0
 NobodyLeft tally = (p : ℕ) → 1 ≤ p → p ≤ tally.dials → is_lost (mark_of tally p) ≡ true

@@ -1,7 +1,7 @@
 //! A run that follows: the dials, the deliveries, and the texts of its quiet moments.
 ghost use Rattle.std.specs.Prelude.{◌≡◌, ◌≢◌, ℕ, None, ◌<◌, ◌≤◌, ◌+◌, ◌∷◌, [], List, Option, OnOk, IfOk, IfErr, IfSome, IsErrOf, Some, false, length, string_bytes, if◌then◌else◌};
-ghost use Rattle.cf_bytes.specs.Outside.{HasRisen};
-ghost use Rattle.cf_client.specs.Stands.{Reflects, count_of, rule_by, watch_by, greeting_by};
+ghost use Rattle.cf_bytes.specs.{HasRisen};
+ghost use Rattle.cf_client.specs.{Reflects, count_of, rule_by, watch_by, greeting_by};
 ghost use Rattle.cf_peer.specs.declared.mode.Mode.TheVariants.{Following};
 ghost use Rattle.cf_run.specs.Names.{names_in};
 ghost use Rattle.cf_run.specs.Passing.{Passes};
@@ -10,9 +10,7 @@ ghost use Rattle.cf_run.specs.Moments.{EndsTurns, HoldsOver, IsInStep, Stopped, 
 ghost use Rattle.cf_run.specs.Texts.{AllPut, HavePut, IsLast, IsOver, PutBefore, PutsBegun, PutsNext, PutsOne, PutsSome, SomePut};
 ghost use Rattle.cf_run.specs.Versions.{KeepsGreeting};
 ghost use Rattle.cf_run.specs.Whole.{AreNewWires, EndsWithin, GivesUp, IsOutcome, LeavesWires, PutsAll};
-ghost use Rattle.cf_sync.specs.Fetching.{following};
-ghost use Rattle.cf_sync.specs.Growing.{FollowTheorem};
-ghost use Rattle.cf_sync.specs.Putting.{put};
+ghost use Rattle.cf_sync.specs.{following, FollowTheorem, put};
 ghost use Rattle.cf_wires.specs.Log.{Log};
 ghost use Rattle.cf_wires.specs.declared.event.Delivery.TheVariants.{Ended};
 ghost use Rattle.cf_wires.specs.declared.event.Event.TheVariants.{Took};

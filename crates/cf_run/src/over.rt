@@ -1,25 +1,23 @@
 //! The run of a client over any wires: the dials, the turns, and the finish.
 ghost use Rattle.std.specs.Prelude.{◌≡◌, ◌≢◌, ℕ, None, ◌<◌, ◌≤◌, ◌+◌, ◌∷◌, ◌++◌, [], List, OnOk, IfOk, IfNone, IfSome, IsErrOf, true, false, length};
 ghost use Rattle.cf_run.specs.Names.{names_in};
-ghost use Rattle.cf_sync.specs.Fetching.{MayTake, Rule, once};
+ghost use Rattle.cf_sync.specs.{MayTake, Rule, once, SyncTheorem};
 ghost use Rattle.cf_run.specs.Texts.{PutBefore, PutBy};
-ghost use Rattle.cf_sync.specs.Sync.{SyncTheorem};
-ghost use Rattle.cf_place.specs.Places.{MayAct, Allowed, after, entry_of, ActTells};
-ghost use Rattle.cf_place.specs.Standing.{Greeting, TellsGreeting};
+ghost use Rattle.cf_place.specs.{MayAct, Allowed, after, entry_of, ActTells, Greeting, TellsGreeting};
 ghost use Rattle.cf_run.specs.Passing.{CountsOne, Passes};
 ghost use Rattle.cf_run.specs.Run.{AreBytesOf, HasDialled, HasNames, IsEnd, IsTicked};
 ghost use Rattle.cf_run.specs.Moments.{Doing, HoldsOver, run_state, Runs, Performs, Dials, Turns, IsOneMore, Turned, Stopped, IsInStep, IsEndTold, EndsTurns, TakesTurns};
-ghost use Rattle.cf_client.specs.Stands.{Reflects, Answers, count_of, rule_by, greeting_by};
+ghost use Rattle.cf_client.specs.{Reflects, Answers, count_of, rule_by, greeting_by};
 ghost use Rattle.cf_run.specs.Versions.{KeepsGreeting};
 ghost use Rattle.cf_run.specs.Whole.{AreNewWires, EndsWithin, IsOutcome, LeavesWires};
 ghost use Rattle.std.specs.List.{All};
-ghost use Rattle.cf_bytes.specs.Cut.{IsBytes};
-ghost use Rattle.cf_msg.specs.Message.{command_of};
+ghost use Rattle.cf_bytes.specs.{IsBytes};
+ghost use Rattle.cf_msg.specs.{command_of};
 ghost use Rattle.cf_peer.specs.declared.act.Act.{Act};
 ghost use Rattle.cf_peer.specs.declared.act.Act.TheVariants.{Send, Close};
-ghost use Rattle.cf_peer.specs.Acts.{IsDoable, IsSendable, bytes_of};
-ghost use Rattle.cf_wires.specs.Log.{Log, Told, tell};
-ghost use Rattle.cf_wires.specs.Wires.{HasCause};
+ghost use Rattle.cf_peer.specs.{IsDoable, IsSendable, bytes_of};
+ghost use Rattle.cf_wires.specs.{Told, tell, HasCause};
+ghost use Rattle.cf_wires.specs.Log.{Log};
 ghost use Rattle.cf_wires.specs.declared.event.Delivery.TheVariants.{Ended};
 ghost use Rattle.cf_wires.specs.declared.event.Event.TheVariants.{Dialled, Sent, SendFailed, Closed, Took};
 

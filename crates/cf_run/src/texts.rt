@@ -1,6 +1,6 @@
 //! Where the texts of a run that follows go.
 ghost use Rattle.std.specs.Prelude.{◌≡◌, ℕ, List, [], Option, Some, OnOk, OnErr, IsErrOf};
-ghost use Rattle.cf_bytes.specs.Outside.{HasRisen, with_more};
+ghost use Rattle.cf_bytes.specs.{HasRisen, with_more};
 ghost use Rattle.cf_run.specs.Texts.{HasBegun};
 ghost use Rattle.cf_run.specs.declared.texts.TextFail.TheVariants.{NoMemory as NoTextMemory};
 

@@ -10,12 +10,12 @@ use Rattle.cf_block.specs.declared.tx.Block.{Block}
 use Rattle.cf_block.specs.Outpoint.{spends_of}
 use Rattle.cf_block.specs.Tx.{txid_of}
 use Rattle.cf_scan.specs.declared.history.Entry.{Entry}
-use Rattle.cf_scan.specs.Coins.{CoinMap, total}
-use Rattle.cf_scan.specs.Scan.{Scanned, unscanned, take_one, take_out, coins_after, touches, entry_of, after_change, made_from, after_tx, scan_from, scan_of, watched_coins, balance_of}
+use Rattle.cf_scan.specs.Coins.{WatchedMap, total}
+use Rattle.cf_scan.specs.Scan.{Scanned, unscanned, take_one, take_out, watched_after, touches, entry_of, after_change, made_from, after_tx, scan_from, scan_of, watched_coins, balance_of}
 use Rattle.cf_block.proofs.Outpoints.{outpoint_total, outpoint_same}
 use Rattle.cf_scan.proofs.Totals.{remove_absent, sum_of-empty}
 
-taken_more : (values : List ℕ) (coins : CoinMap) (ps : List OutPoint) → length values ≤ length (fold take_one (values, coins) ps).0
+taken_more : (values : List ℕ) (coins : WatchedMap) (ps : List OutPoint) → length values ≤ length (fold take_one (values, coins) ps).0
 taken_more values coins [] = omega arith
 taken_more values coins (p ∷ ps) =
     let rest : length (values ++ option_to_list (get coins p)) ≤ length (fold take_one (values ++ option_to_list (get coins p), remove coins p) ps).0 =
@@ -23,7 +23,7 @@ taken_more values coins (p ∷ ps) =
     omega (arith, rest, length-append values (option_to_list (get coins p)))
 
 -- where no value is taken out all coins stay
-none_taken : (values : List ℕ) (coins : CoinMap) (ps : List OutPoint) → length (fold take_one (values, coins) ps).0 ≡ length values → (fold take_one (values, coins) ps).1 ≡ coins
+none_taken : (values : List ℕ) (coins : WatchedMap) (ps : List OutPoint) → length (fold take_one (values, coins) ps).0 ≡ length values → (fold take_one (values, coins) ps).1 ≡ coins
 none_taken values coins [] h = refl
 none_taken values coins (p ∷ ps) h =
     elim (get coins p) as (λ x. get coins p ≡ x → length (fold take_one (values ++ option_to_list x, remove coins p) ps).0 ≡ length values
@@ -51,8 +51,8 @@ neither a b h =
     (is_zero a (none_left (a == 0) both.0), is_zero b (none_left (b == 0) both.1))
 
 -- a transaction that takes nothing out and puts nothing in leaves the coins as they are
-untouched : (coins : CoinMap) (spends : List OutPoint) (made : List (OutPoint × ℕ)) → touches coins spends made ≡ false → coins_after coins spends made ≡ coins
-unfolding touches coins_after take_out
+untouched : (coins : WatchedMap) (spends : List OutPoint) (made : List (OutPoint × ℕ)) → touches coins spends made ≡ false → watched_after coins spends made ≡ coins
+unfolding touches watched_after take_out
 untouched coins spends [] h = none_taken [] coins spends (neither (length (fold take_one ([], coins) spends).0) 0 h).0
 untouched coins spends (c ∷ made) h =
     let some : length (c ∷ made) ≡ 0 = (neither (length (fold take_one ([], coins) spends).0) (length (c ∷ made)) h).1 in
@@ -71,7 +71,7 @@ balanced_change : (height : ℕ) (s : Scanned) (txid : List ℕ) (spends : List 
 unfolding after_change entry_of
 balanced_change height s txid spends made h =
     elim (touches s.coins spends made) as (λ b. touches s.coins spends made ≡ b
-    → balance_of (s.entries ++ (if b then entry_of height txid s.coins spends made ∷ [] else [])) ≡ total (coins_after s.coins spends made)) [
+    → balance_of (s.entries ++ (if b then entry_of height txid s.coins spends made ∷ [] else [])) ≡ total (watched_after s.coins spends made)) [
       | true ↦ λ is. balance_more s.entries (entry_of height txid s.coins spends made)
       | false ↦ λ is. ap balance_of (append-nil s.entries) ∙ h ∙ ap total (sym (untouched s.coins spends made is))
     ] refl

@@ -10,9 +10,9 @@ use Rattle.cf_block.specs.declared.tx.Block.{Block}
 use Rattle.cf_block.specs.Output.{Output}
 use Rattle.cf_block.specs.Outpoint.{outpoint, spends_of}
 use Rattle.cf_block.specs.Tx.{txid_of}
-use Rattle.cf_scan.specs.Coins.{CoinMap}
+use Rattle.cf_scan.specs.Coins.{WatchedMap}
 use Rattle.cf_scan.specs.Watching.{is_watched}
-use Rattle.cf_scan.specs.Scan.{Scanned, unscanned, Taking, take_one, take_out, put_one, coins_after, touches, entry_of, after_change, made_from, after_tx, scan_from, scan_of}
+use Rattle.cf_scan.specs.Scan.{Scanned, unscanned, Taking, take_one, take_out, put_one, watched_after, touches, entry_of, after_change, made_from, after_tx, scan_from, scan_of}
 use Rattle.cf_scan.specs.Extracts.{placed_from, extracts_of, coin_of, after_extract, after_placed, history_of}
 use Rattle.cf_scan.specs.Extract.{pays_from, tx_extract_of, extract_of}
 use Rattle.cf_scan.specs.Idle.{IsIdleTx, IsIdle, LeavesOutIdle}
@@ -58,7 +58,7 @@ pub history_is_scan : (blocks : List Block) (watch : List (List ℕ)) → histor
 history_is_scan blocks watch = ap (λ s. s.entries) (scan_by_extracts watch 1 unscanned blocks)
 
 -- what names no coin takes none out
-takes_none : (values : List ℕ) (coins : CoinMap) (ps : List OutPoint) → AllByRecursion (λ p. get coins p ≡ None) ps → fold take_one (values, coins) ps ≡ (values, coins)
+takes_none : (values : List ℕ) (coins : WatchedMap) (ps : List OutPoint) → AllByRecursion (λ p. get coins p ≡ None) ps → fold take_one (values, coins) ps ≡ (values, coins)
 takes_none values coins [] h = refl
 takes_none values coins (p ∷ ps) h =
     ap (λ (t : Taking). fold take_one t ps) (λ i. ((ap (λ o. values ++ option_to_list o) h.0 ∙ append-nil values) i, remove_absent outpoint_total outpoint_same coins p h.0 i))
@@ -72,11 +72,11 @@ makes_none i txid watch (o ∷ os) h =
 
 pub idle_change : (height : ℕ) (s : Scanned) (txid : List ℕ) (spends : List OutPoint) (made : List (OutPoint × ℕ))
     → AllByRecursion (λ p. get s.coins p ≡ None) spends → made ≡ [] → after_change height s txid spends made ≡ s
-unfolding after_change touches coins_after take_out
+unfolding after_change touches watched_after take_out
 idle_change height s txid spends made names makes =
     let none : fold take_one ([], s.coins) spends ≡ ([], s.coins) = takes_none [] s.coins spends names in
     let untouched : touches s.coins spends made ≡ false = λ i. not (length (none i).0 == 0) || not (length (makes i) == 0) in
-    let stay : coins_after s.coins spends made ≡ s.coins = λ i. fold put_one (none i).1 (makes i) in
+    let stay : watched_after s.coins spends made ≡ s.coins = λ i. fold put_one (none i).1 (makes i) in
     let entries : s.entries ++ (if touches s.coins spends made then entry_of height txid s.coins spends made ∷ [] else []) ≡ s.entries =
     ap (λ b. s.entries ++ (if b then entry_of height txid s.coins spends made ∷ [] else [])) untouched ∙ append-nil s.entries in
     λ i. record { entries = entries i; coins = stay i }

@@ -6,7 +6,7 @@ use Rattle.cf_scan.specs.declared.changes.Change.{Change}
 use Rattle.cf_scan.specs.declared.extracts.Placed.{Placed}
 use Rattle.cf_scan.specs.declared.history.Entry.{Entry}
 use Rattle.cf_scan.specs.declared.page.Page.{Page}
-use Rattle.cf_scan.specs.Coins.{CoinMap}
+use Rattle.cf_scan.specs.Coins.{WatchedMap}
 use Rattle.cf_scan.specs.Extracts.{after_placed}
 use Rattle.cf_scan.specs.Scan.{Scanned}
 use Rattle.cf_scan.specs.Undo.{Goes, undo_back}
@@ -14,7 +14,7 @@ use Rattle.cf_scan.specs.UndoOf.{coins_of, log_of}
 
 -- the blocks, the newest first, with the page of each: without the newest one's changes and entries it stands for the others,
 -- and with it that one is told
-abbrev pub StandsOn : List Placed → List Page → List Entry → List Change → CoinMap → Type 0
+abbrev pub StandsOn : List Placed → List Page → List Entry → List Change → WatchedMap → Type 0
 StandsOn [] [] entries log coins = (entries ≡ []) × (log ≡ []) × (coins ≡ empty)
 StandsOn [] (page ∷ pages) entries log coins = ⊥
 StandsOn (block ∷ blocks) [] entries log coins = ⊥

@@ -7,14 +7,14 @@ use Rattle.cf_block.specs.declared.tx.OutPoint.{OutPoint}
 use Rattle.cf_block.specs.Outpoint.{outpoint_cmp, outpoint_code}
 
 -- watched coins: the value of each outpoint's output
-abbrev pub CoinMap : Type 0
-CoinMap = FinMap outpoint_cmp ℕ
+abbrev pub WatchedMap : Type 0
+WatchedMap = FinMap outpoint_cmp ℕ
 
 -- the sum of the coins
-abbrev pub total : CoinMap → ℕ
+abbrev pub total : WatchedMap → ℕ
 total coins = sum (values coins)
 
-abbrev pub coins_code : Coded CoinMap
+abbrev pub coins_code : Coded WatchedMap
 coins_code = code outpoint_code coded_ℕ
 
 -- each value has 64 bits, and this is their sum

@@ -9,47 +9,47 @@ use Rattle.cf_block.specs.Output.{Output}
 use Rattle.cf_block.specs.Outpoint.{outpoint, spends_of}
 use Rattle.cf_block.specs.Tx.{txid_of}
 use Rattle.cf_scan.specs.declared.history.Entry.{Entry}
-use Rattle.cf_scan.specs.Coins.{CoinMap, total}
+use Rattle.cf_scan.specs.Coins.{WatchedMap, total}
 use Rattle.cf_scan.specs.Watching.{is_watched}
 
 -- the values of the coins that were taken out, and the coins that stay
 abbrev pub Taking : Type 0
-Taking = List ℕ × CoinMap
+Taking = List ℕ × WatchedMap
 
 -- a coin is taken out, where it is there
 abbrev pub take_one : Taking → OutPoint → Taking
 take_one t p = (t.0 ++ option_to_list (get t.1 p), remove t.1 p)
 
 -- the coins that these outpoints name are taken out, each once
-unfoldable pub take_out : CoinMap → List OutPoint → Taking
+unfoldable pub take_out : WatchedMap → List OutPoint → Taking
 take_out coins spends = fold take_one ([], coins) spends
 
 -- a coin is put in
-abbrev pub put_one : CoinMap → OutPoint × ℕ → CoinMap
+abbrev pub put_one : WatchedMap → OutPoint × ℕ → WatchedMap
 put_one coins coin = insert coins coin.0 coin.1
 
 -- the coins after a transaction that names these outpoints and makes these coins
-unfoldable pub coins_after : CoinMap → List OutPoint → List (OutPoint × ℕ) → CoinMap
-coins_after coins spends made = fold put_one (take_out coins spends).1 made
+unfoldable pub watched_after : WatchedMap → List OutPoint → List (OutPoint × ℕ) → WatchedMap
+watched_after coins spends made = fold put_one (take_out coins spends).1 made
 
 -- whether it takes a coin out or puts one in
-unfoldable pub touches : CoinMap → List OutPoint → List (OutPoint × ℕ) → Bool
+unfoldable pub touches : WatchedMap → List OutPoint → List (OutPoint × ℕ) → Bool
 touches coins spends made = not (length (take_out coins spends).0 == 0) || not (length made == 0)
 
 -- what the history says of it
-unfoldable pub entry_of : ℕ → List ℕ → CoinMap → List OutPoint → List (OutPoint × ℕ) → Entry
+unfoldable pub entry_of : ℕ → List ℕ → WatchedMap → List OutPoint → List (OutPoint × ℕ) → Entry
 entry_of height txid coins spends made = record {
   height = height;
   txid = record { 0 = txid };
   received = sum_by (λ coin. coin.1) made;
   spent = sum (take_out coins spends).0;
-  balance = total (coins_after coins spends made);
+  balance = total (watched_after coins spends made);
 }
 
 -- the entries so far, and the watched coins as they stand
 pub record Scanned : Type 0 where
   pub entries : List Entry
-  pub coins : CoinMap
+  pub coins : WatchedMap
 
 -- nothing is scanned yet: no entries, no coins
 abbrev pub unscanned : Scanned
@@ -59,7 +59,7 @@ unscanned = record { entries = []; coins = empty }
 unfoldable pub after_change : ℕ → Scanned → List ℕ → List OutPoint → List (OutPoint × ℕ) → Scanned
 after_change height s txid spends made = record {
   entries = s.entries ++ (if touches s.coins spends made then entry_of height txid s.coins spends made ∷ [] else []);
-  coins = coins_after s.coins spends made;
+  coins = watched_after s.coins spends made;
 }
 
 -- the coins that a transaction makes: its outputs to watched scripts, the first of these outputs being the one of this number
@@ -82,7 +82,7 @@ abbrev pub scan_of : List Block → List (List ℕ) → List Entry
 scan_of blocks watch = (scan_from 1 watch unscanned blocks).entries
 
 -- the watched coins after them
-abbrev pub watched_coins : List Block → List (List ℕ) → CoinMap
+abbrev pub watched_coins : List Block → List (List ℕ) → WatchedMap
 watched_coins blocks watch = (scan_from 1 watch unscanned blocks).coins
 
 -- the balance after the last entry, or nothing

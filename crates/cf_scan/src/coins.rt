@@ -9,18 +9,18 @@ use std::alloc::Global;
 use std::collections::BTreeMap;
 use std::marker::Model;
 
-/// Coins: the values of outputs by their outpoints, and their sum. Contracts see the map.
+/// Coins of watched scripts: the values of outputs by their outpoints, and their sum. Contracts see the map.
 #[derive(Drop)]
-pub struct Coins {
+pub struct WatchedCoins {
     map: BTreeMap<OutPoint, u64>,
     balance: u128,
 }
 
-impl Model for Coins {
+impl Model for WatchedCoins {
     ghost use Rattle.std.specs.FinMap.{from_entries};
-    ghost use Rattle.cf_scan.specs.Coins.{CoinMap, coins_code, AreSummed};
+    ghost use Rattle.cf_scan.specs.Coins.{WatchedMap, coins_code, AreSummed};
 
-    ghost Value = { CoinMap };
+    ghost Value = { WatchedMap };
 
     ghost coded = { coins_code };
 
@@ -29,11 +29,11 @@ impl Model for Coins {
     ghost invariant = { λ s. AreSummed s.map.entries s.balance };
 }
 
-impl Coins {
-    pub fn new(alloc: Global) -> Coins
+impl WatchedCoins {
+    pub fn new(alloc: Global) -> WatchedCoins
         ensures { result ≡ empty }
     {
-        Coins {
+        WatchedCoins {
             map: BTreeMap::new(alloc),
             balance: 0,
         }

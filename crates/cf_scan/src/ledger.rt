@@ -3,7 +3,7 @@ ghost use Rattle.std.specs.Prelude.{◌≡◌, ◌==◌, not, OnOk, IfOk, sum, s
 ghost use Rattle.cf_scan.specs.Scan.{take_out as taken_of, put_one, unscanned};
 ghost use Rattle.cf_scan.specs.Extracts.{coin_of, after_extract, after_placed};
 
-use crate::coins::Coins;
+use crate::coins::WatchedCoins;
 use crate::extracts::{Extract, Paid, TxExtract};
 use crate::history::{Entry, History};
 use cf_block::OutPoint;
@@ -16,7 +16,7 @@ use std::marker::Model;
 #[derive(Drop)]
 pub struct Ledger {
     entries: Vec<Entry>,
-    coins: Coins,
+    coins: WatchedCoins,
 }
 
 impl Model for Ledger {
@@ -38,7 +38,7 @@ impl Ledger {
     {
         Ledger {
             entries: Vec::new(alloc),
-            coins: Coins::new(alloc),
+            coins: WatchedCoins::new(alloc),
         }
     }
 
@@ -85,7 +85,7 @@ impl Ledger {
 
 // Takes out the coins that are named: whether there was one, and their sum.
 #[tactic(auto, unfolding(crate::specs::Scan::take_out))]
-fn take_out(coins: &mut Coins, spends: &[OutPoint]) -> (bool, u128)
+fn take_out(coins: &mut WatchedCoins, spends: &[OutPoint]) -> (bool, u128)
     ensures after { coins.new ≡ (taken_of coins.old spends.now).1 }
     ensures any { result.0 ≡ not (length (taken_of coins.old spends.now).0 == 0) }
     ensures sum { result.1 ≡ sum (taken_of coins.old spends.now).0 }
@@ -101,7 +101,7 @@ fn take_out(coins: &mut Coins, spends: &[OutPoint]) -> (bool, u128)
 }
 
 // Puts outputs in, and answers their sum.
-fn put_in(coins: &mut Coins, txid: Hash32, pays: &[Paid]) -> Result<u128, NoMemory>
+fn put_in(coins: &mut WatchedCoins, txid: Hash32, pays: &[Paid]) -> Result<u128, NoMemory>
     ensures after { OnOk result (coins.new ≡ fold put_one coins.old (map (coin_of txid.0) pays.now)) }
     ensures sum { IfOk result (λ n. n ≡ sum_by (λ coin. coin.1) (map (coin_of txid.0) pays.now)) }
 {

@@ -1,8 +1,6 @@
 //! What is kept of a block whose transactions are lent.
 ghost use Rattle.std.specs.Prelude.{◌≡◌, IfOk, map};
-ghost use Rattle.cf_block.specs.Commitment.{AreTxids};
-ghost use Rattle.cf_block.specs.Outpoint.{spends_of};
-ghost use Rattle.cf_block.specs.Tx.{txid_of};
+ghost use Rattle.cf_block.specs.{AreTxids, spends_of, txid_of};
 ghost use Rattle.cf_scan.specs.Extract.{pays_from, tx_extract_of, extract_of};
 
 use crate::extracts::{Extract, Paid, TxExtract};

@@ -1,9 +1,8 @@
 //! How far one question goes.
 ghost use Rattle.std.specs.Prelude.{◌≡◌, ◌+◌, ◌<◌, ◌≤◌, None, IsSome, length};
-ghost use Rattle.cf_dispute.specs.Of.{tables_of};
-ghost use Rattle.cf_headers.specs.Heights.{hash_at};
-ghost use Rattle.cf_headers.specs.Store.{own_of};
-ghost use Rattle.cf_tables.specs.Wanting.{IsAbove};
+ghost use Rattle.cf_dispute.specs.{tables_of};
+ghost use Rattle.cf_headers.specs.{hash_at, own_of};
+ghost use Rattle.cf_tables.specs.{IsAbove};
 ghost use Rattle.cf_seek.specs.Ends.{AreUnclaimed, IsLastUnclaimed};
 
 use crate::known::Known;

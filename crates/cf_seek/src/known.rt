@@ -1,8 +1,6 @@
 //! What is known of blocks.
-ghost use Rattle.cf_dispute.specs.Of.{tables_of};
-ghost use Rattle.cf_tables.specs.Extracts.{table_in};
-ghost use Rattle.cf_tables.specs.Judged.{verdicts_in};
-ghost use Rattle.cf_tables.specs.Wanting.{IsKindAbove};
+ghost use Rattle.cf_dispute.specs.{tables_of};
+ghost use Rattle.cf_tables.specs.{table_in, verdicts_in, IsKindAbove};
 
 use crate::opens::Opens;
 use cf_bytes::Hash32;

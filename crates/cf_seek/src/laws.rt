@@ -2,21 +2,19 @@
 ghost use Rattle.std.specs.Prelude.{◌≡◌, ◌≤◌, ℕ, min, map, length, List, None, Some, IsSome, true};
 ghost use Rattle.cf_bytes.specs.declared.hash.Hash32.{Hash32};
 ghost use Rattle.cf_dispute.specs.declared.claim.At.TheVariants.{Differ};
-ghost use Rattle.cf_dispute.specs.Claims.{IsAt, Tables};
+ghost use Rattle.cf_dispute.specs.{IsAt};
+ghost use Rattle.cf_dispute.specs.Claims.{Tables};
 ghost use Rattle.cf_block.specs.declared.header.Header.{Header};
-ghost use Rattle.cf_headers.specs.Chain.{Chain, Longer, accept};
-ghost use Rattle.cf_headers.specs.Changes.{link_height};
-ghost use Rattle.cf_headers.specs.Heights.{hash_at};
+ghost use Rattle.cf_headers.specs.{Longer, accept, link_height, hash_at};
+ghost use Rattle.cf_headers.specs.Chain.{Chain};
 ghost use Rattle.cf_match.specs.declared.job.Job.{Job};
 ghost use Rattle.cf_match.specs.declared.job.Verdict.TheVariants.{Hit};
-ghost use Rattle.cf_match.specs.Verdicts.{Verdicts, verdict_of, with_verdicts};
-ghost use Rattle.cf_tables.specs.Judged.{MoreVerdicts};
+ghost use Rattle.cf_match.specs.{verdict_of, with_verdicts};
+ghost use Rattle.cf_match.specs.Verdicts.{Verdicts};
+ghost use Rattle.cf_tables.specs.{MoreVerdicts, ExtractTable, AreClaimed, IsToFetch, IsUnjudged, AddsClaims};
 ghost use Rattle.cf_seek.specs.Opens.{Opens};
 ghost use Rattle.cf_seek.specs.Opening.{Closes};
 ghost use Rattle.cf_seek.specs.Seeking.{ArePassed, ArePassedHits, AreSought, MoreOpens};
-ghost use Rattle.cf_tables.specs.Known.{ExtractTable};
-ghost use Rattle.cf_tables.specs.Wanting.{AreClaimed, IsToFetch, IsUnjudged};
-ghost use Rattle.cf_tables.specs.Claiming.{AddsClaims};
 
 /// Up to a height at which nothing of a peer's blocks is to be asked for that isn't open, that stays so: where extracts
 /// come, where verdicts come (blocks that hit now are to be fetched), where other peers claim something (blocks that

@@ -1,8 +1,7 @@
 //! What is open to one peer.
 ghost use Rattle.std.specs.Prelude.{◌≡◌, ◌⊎◌, ℕ, List, true, false, OnOk};
-ghost use Rattle.cf_dispute.specs.Tables.{blocks_of};
-ghost use Rattle.cf_headers.specs.Chain.{IsIn};
-ghost use Rattle.cf_headers.specs.Rules.{same};
+ghost use Rattle.cf_dispute.specs.{blocks_of};
+ghost use Rattle.cf_headers.specs.{IsIn, same};
 
 use cf_bytes::{Hash32, NoMemory};
 use std::alloc::Global;

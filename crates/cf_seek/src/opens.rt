@@ -1,6 +1,6 @@
 //! What stands in open requests.
 ghost use Rattle.std.specs.Prelude.{◌≡◌, ◌≢◌, ◌≤◌, ℕ, List, true, false, IfOk, OnErr, OnOk, vec_len};
-ghost use Rattle.cf_dispute.specs.Tables.{blocks_of};
+ghost use Rattle.cf_dispute.specs.{blocks_of};
 ghost use Rattle.cf_seek.specs.Seeking.{MoreOpens};
 ghost use Rattle.cf_seek.specs.Spans.{IsAskedFor, IsAskedInPart};
 ghost use Rattle.cf_seek.specs.Opens.{IsBlockFree, IsFilterFree};

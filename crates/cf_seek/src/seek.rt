@@ -1,13 +1,10 @@
 //! What a peer is to be asked for next that isn't open to anybody.
 ghost use Rattle.std.specs.Prelude.{◌≡◌, ◌≢◌, ◌⊎◌, ◌+◌, ◌<◌, ◌≤◌, ℕ, List, true, false, IsSome, length, max};
-ghost use Rattle.cf_dispute.specs.Of.{tables_of};
-ghost use Rattle.cf_headers.specs.Heights.{hash_at, height_of};
-ghost use Rattle.cf_headers.specs.Store.{own_of};
-ghost use Rattle.cf_tables.specs.Extracts.{table_in};
-ghost use Rattle.cf_tables.specs.Judged.{verdicts_in};
+ghost use Rattle.cf_dispute.specs.{tables_of};
+ghost use Rattle.cf_headers.specs.{hash_at, height_of, own_of};
+ghost use Rattle.cf_tables.specs.{table_in, verdicts_in, IsToFetch, IsUnjudged};
 ghost use Rattle.cf_seek.specs.OpensAll.{opens_in};
 ghost use Rattle.cf_seek.specs.OpensOf.{block_at, filter_at};
-ghost use Rattle.cf_tables.specs.Wanting.{IsToFetch, IsUnjudged};
 ghost use Rattle.cf_seek.specs.Cursors.{marks_at, passed_under};
 ghost use Rattle.cf_seek.specs.Seeking.{ArePassedHits, IsToAsk, IsToGet, AreSought, ArePassed, IsSought, AreToAsk, IsLastToAsk, IsBelowAHit};
 ghost use Rattle.cf_seek.specs.Tracking.{AreRaised, IsFallen, IsMarked, IsWithin};

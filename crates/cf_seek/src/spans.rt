@@ -1,7 +1,6 @@
 //! What one question is about.
 ghost use Rattle.std.specs.Prelude.{◌≡◌, ℕ, ◌<◌, ◌≤◌, IsSome, IfOk, length};
-ghost use Rattle.cf_headers.specs.Heights.{hash_at};
-ghost use Rattle.cf_headers.specs.Store.{own_of};
+ghost use Rattle.cf_headers.specs.{hash_at, own_of};
 ghost use Rattle.cf_seek.specs.Spans.{IsSpan};
 
 use crate::testing::Trial;

@@ -1,13 +1,10 @@
 //! Which filter a peer is to be asked for so that it is tested.
 ghost use Rattle.std.specs.Prelude.{◌≡◌, ℕ, List, true, false, Some, None, IsSome, IfSome, length, max, ◌≤◌};
-ghost use Rattle.cf_dispute.specs.Of.{tables_of};
-ghost use Rattle.cf_dispute.specs.Tables.{blocks_of};
-ghost use Rattle.cf_headers.specs.Store.{own_of};
-ghost use Rattle.cf_tables.specs.Extracts.{table_in};
+ghost use Rattle.cf_dispute.specs.{tables_of, blocks_of};
+ghost use Rattle.cf_headers.specs.{own_of, IsIn};
+ghost use Rattle.cf_tables.specs.{table_in, told_in};
 ghost use Rattle.cf_seek.specs.Testing.{IsClaimedAs, IsExposed, IsNextTrial};
 ghost use Rattle.cf_seek.specs.Tried.{AreTried, IsToTry};
-ghost use Rattle.cf_tables.specs.Tests.{told_in};
-ghost use Rattle.cf_headers.specs.Chain.{IsIn};
 
 use crate::known::Known;
 use cf_bytes::{Hash32, PeerNo};

@@ -1,11 +1,9 @@
 //! Up to where none of the peers' blocks is to be tested.
 ghost use Rattle.std.specs.Prelude.{◌≡◌, ◌≢◌, ◌≤◌, ℕ, List, ◌∷◌, [], true, IsSome, replicate, slice_set, vec_len, IfOk};
 ghost use Rattle.cf_dispute.specs.declared.claim.At.TheVariants.{Differ};
-ghost use Rattle.cf_dispute.specs.Claims.{IsAt};
-ghost use Rattle.cf_dispute.specs.Of.{tables_of};
-ghost use Rattle.cf_dispute.specs.Tables.{blocks_of};
+ghost use Rattle.cf_dispute.specs.{IsAt, tables_of, blocks_of};
 ghost use Rattle.cf_seek.specs.Tried.{IsOn, IsTriedBelow, tried_after, tried_at, tried_under};
-ghost use Rattle.cf_tables.specs.Extracts.{table_in};
+ghost use Rattle.cf_tables.specs.{table_in};
 
 use crate::seek::passed_below;
 use cf_bytes::{Hash32, NoMemory, PeerNo};

@@ -1,9 +1,8 @@
 //! What a peer is to be asked for next.
 ghost use Rattle.std.specs.Prelude.{◌≡◌, ◌+◌, ◌<◌, ◌≤◌, None, IsSome, length, max};
-ghost use Rattle.cf_dispute.specs.Of.{tables_of};
-ghost use Rattle.cf_headers.specs.Heights.{hash_at};
-ghost use Rattle.cf_headers.specs.Store.{own_of};
-ghost use Rattle.cf_tables.specs.Wanting.{IsAbove, AreClaimed};
+ghost use Rattle.cf_dispute.specs.{tables_of};
+ghost use Rattle.cf_headers.specs.{hash_at, own_of};
+ghost use Rattle.cf_tables.specs.{IsAbove, AreClaimed};
 
 use crate::known::Known;
 use cf_bytes::PeerNo;

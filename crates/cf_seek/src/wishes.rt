@@ -1,15 +1,13 @@
 //! The question that meets a want.
 ghost use Rattle.std.specs.Prelude.{◌≤◌, IsSome, IfOk, length, max};
-ghost use Rattle.cf_dispute.specs.Of.{tables_of};
-ghost use Rattle.cf_headers.specs.Store.{own_of};
-ghost use Rattle.cf_tables.specs.Extracts.{table_in};
-ghost use Rattle.cf_tables.specs.Judged.{verdicts_in};
+ghost use Rattle.cf_dispute.specs.{tables_of};
+ghost use Rattle.cf_headers.specs.{own_of};
+ghost use Rattle.cf_tables.specs.{table_in, verdicts_in, told_in};
 ghost use Rattle.cf_seek.specs.OpensAll.{opens_in};
 ghost use Rattle.cf_seek.specs.Seeking.{IsSought};
 ghost use Rattle.cf_seek.specs.Spans.{GoesFar, IsWish};
 ghost use Rattle.cf_seek.specs.Testing.{IsTrying};
 ghost use Rattle.cf_seek.specs.Tried.{AreTried};
-ghost use Rattle.cf_tables.specs.Tests.{told_in};
 
 use crate::ends::claims_end;
 use crate::known::Known;

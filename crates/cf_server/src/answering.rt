@@ -1,6 +1,6 @@
 //! What is answered to a message.
 ghost use Rattle.std.specs.Prelude.{◌≡◌, ℕ, ◌||◌, false, take, OnOk, OnErr};
-ghost use Rattle.cf_chain.specs.Serve.{is_version as version_is, replies_to};
+ghost use Rattle.cf_chain.specs.{is_version as version_is, replies_to};
 ghost use Rattle.cf_server.specs.Replies.{Adds};
 
 use crate::plan::plan;
@@ -20,11 +20,11 @@ pub struct Serving {
 
 impl Serving {
     /// Before the peer's `version`.
-    pub fn new(now: i64, nonce: u64) -> Serving
-        ensures { result ≡ record { time = now; nonce = nonce; seen = false } }
+    pub fn new(moment: i64, nonce: u64) -> Serving
+        ensures { result ≡ record { time = moment; nonce = nonce; seen = false } }
     {
         Serving {
-            time: now,
+            time: moment,
             nonce,
             seen: false,
         }

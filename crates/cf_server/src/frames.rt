@@ -2,15 +2,12 @@
 ghost use Rattle.std.specs.Prelude.{◌≡◌, ◌≤◌, ◌<◌, ◌+◌, ◌++◌, suc, List, length, map, take, drop, slice_index_or, Some, IfOk, OnOk};
 ghost use Rattle.std.specs.Option.{option_to_list};
 ghost use Rattle.cf_block.specs.declared.tx.Block.{Block};
-ghost use Rattle.cf_block.specs.Genesis.{first_block};
-ghost use Rattle.cf_frame.specs.Frame.{IsFrame, spelling};
+ghost use Rattle.cf_block.specs.{first_block};
+ghost use Rattle.cf_frame.specs.{IsFrame, spelling};
 ghost use Rattle.cf_msg.specs.declared.msg.Msg.TheVariants.{Block as BlockMessage, Headers as HeadersMessage};
-ghost use Rattle.cf_msg.specs.Message.{IsWithinLimits, frame_of, payload_of};
-ghost use Rattle.cf_chain.specs.Filters.{first_filtered, filters_of, filter_at};
-ghost use Rattle.cf_chain.specs.Good.{IsGoodChain, max_height};
-ghost use Rattle.cf_chain.specs.Heights.{all_blocks, block_height};
-ghost use Rattle.cf_chain.specs.Serve.{version_reply, cfilter_of, cfheaders_of, cfcheckpt_of, header_or_zeros as header_shown, header_before as header_shown_before, thousands};
-ghost use Rattle.cf_filter.specs.Filter.{filter_hash_of};
+ghost use Rattle.cf_msg.specs.{IsWithinLimits, frame_of, payload_of};
+ghost use Rattle.cf_chain.specs.{first_filtered, filters_of, filter_at, IsGoodChain, max_height, all_blocks, block_height, version_reply, cfilter_of, cfheaders_of, cfcheckpt_of, header_or_zeros as header_shown, header_before as header_shown_before, thousands};
+ghost use Rattle.cf_filter.specs.{filter_hash_of};
 ghost use Rattle.cf_server.specs.Replies.{IsReplyOf, message_of};
 
 use crate::answering::Serving;

@@ -2,11 +2,11 @@
 ghost use Rattle.std.specs.Prelude.{◌≡◌, ◌<◌, ◌++◌, ◌∷◌, ℕ, List, length, Err};
 ghost use Rattle.cf_frame.specs.declared.frame.Frame.{Frame};
 ghost use Rattle.cf_frame.specs.declared.frame.FrameFault.{FrameFault};
-ghost use Rattle.cf_bytes.specs.Cut.{IsBytes};
-ghost use Rattle.cf_frame.specs.Stream.{IsBad, IsStreamOf};
+ghost use Rattle.cf_bytes.specs.{IsBytes};
+ghost use Rattle.cf_frame.specs.{IsBad, IsStreamOf};
 ghost use Rattle.cf_msg.specs.declared.msg.Malformed.{Malformed};
 ghost use Rattle.cf_msg.specs.declared.msg.Msg.{Msg};
-ghost use Rattle.cf_msg.specs.Reading.{message_of};
+ghost use Rattle.cf_msg.specs.{message_of};
 ghost use Rattle.cf_server.specs.Serving.{AreSpelled, Waits, IsBad as StopsBad, IsMalformed, IsFull, course, most_frames};
 
 /// Where bytes are the frames of messages, fewer than 1,000,000, and then some in which no frame is whole, their course

@@ -1,7 +1,7 @@
 //! Which replies are planned for a message.
 ghost use Rattle.std.specs.Prelude.{◌≡◌, ◌≤◌, ◌-◌, suc, ◌++◌, ◌∷◌, [], map, length, OnOk, OnErr};
 ghost use Rattle.std.specs.List.{flat_map, range_with_len};
-ghost use Rattle.cf_chain.specs.Serve.{fork_height, most_headers as most_of, range_end as range_end_of};
+ghost use Rattle.cf_chain.specs.{fork_height, most_headers as most_of, range_end as range_end_of};
 ghost use Rattle.cf_server.specs.declared.reply.Reply.TheVariants.{CfilterAt};
 ghost use Rattle.cf_server.specs.Plans.{Begun, alone_plan, above_plan, headers_plan, data_plan, cfilters_plan, cfheaders_plan, cfcheckpt_plan, basic_height as basic_height_of, plan_for as plan_in, greeting_plan, plan_of};
 

@@ -1,8 +1,7 @@
 //! Serving a connection.
 ghost use Rattle.std.specs.Prelude.{◌≡◌, ◌≤◌, ◌++◌, [], IfSome, IfErr, OnOk};
-ghost use Rattle.cf_frame.specs.Frame.{spelling};
-ghost use Rattle.cf_msg.specs.Message.{frame_of};
-ghost use Rattle.cf_msg.specs.Reading.{message_of as message_in};
+ghost use Rattle.cf_frame.specs.{spelling};
+ghost use Rattle.cf_msg.specs.{frame_of, message_of as message_in};
 ghost use Rattle.cf_server.specs.Replies.{IsReplyOf, AreRepliesOf, message_of, messages_of};
 ghost use Rattle.cf_server.specs.Serving.{IsServed, Counts, Ends, text_of};
 ghost use Rattle.cf_server.specs.Turns.{AnswersFirst, owed_for};
@@ -191,20 +190,20 @@ pub fn serve_one<C: Duplex>(
     alloc: Global,
     index: &Index,
     conn: &mut C,
-    now: i64,
+    moment: i64,
     nonce: u64,
 ) -> ServeEnd
-    ensures served { IfSome (C.left conn.old) (λ bytes. IsServed now nonce index.now result bytes (C.left conn.new)
+    ensures served { IfSome (C.left conn.old) (λ bytes. IsServed moment nonce index.now result bytes (C.left conn.new)
         (C.written conn.old) (C.written conn.new)) }
     ensures in_turn { IfSome (C.left conn.old) (λ bytes. AnswersFirst C.left C.written
-        (owed_for now nonce index.now) bytes (C.written conn.old) (C.left conn.new)) }
+        (owed_for moment nonce index.now) bytes (C.written conn.old) (C.left conn.new)) }
     ensures ends { Ends result (C.ended conn.new) (C.left conn.new) }
     ensures counts { Counts result (C.Source.faults conn.old) (C.Source.faults conn.new) (C.Sink.faults conn.old)
         (C.Sink.faults conn.new) }
 {
     let mut session = Session {
         framer: Framer::new(alloc),
-        served: Serving::new(now, nonce),
+        served: Serving::new(moment, nonce),
         left: MOST_FRAMES,
     };
     let mut piece = [0u8; PIECE];

@@ -27,7 +27,7 @@ use Rattle.cf_filter.proofs.Among.{members_are, items_few}
 use Rattle.cf_headers.specs.Chain.{IsIn}
 use Rattle.cf_scan.specs.Coins as watched
 use Rattle.cf_scan.specs.Watching.{is_watched, IsWatch}
-use Rattle.cf_scan.specs.Scan.{Scanned, take_one, take_out, put_one, coins_after, after_change, made_from, after_tx}
+use Rattle.cf_scan.specs.Scan.{Scanned, take_one, take_out, put_one, watched_after, after_change, made_from, after_tx}
 use Rattle.cf_scan.specs.Idle.{IsIdleTx}
 use Rattle.cf_scan.proofs.HistoryLaws.{idle_change, makes_none}
 use Rattle.cf_scan.proofs.WatchLaws.{watch_is}
@@ -45,7 +45,7 @@ idle_txs watch height s (t ∷ ts) h = ap (λ n. fold (after_tx watch height) n 
 -- ---- the watched coins are coins
 
 -- each watched coin is a coin of the chain, with a watched script
-abbrev pub AreCoins : List (List ℕ) → watched.CoinMap → CoinMap → Type 0
+abbrev pub AreCoins : List (List ℕ) → watched.WatchedMap → CoinMap → Type 0
 AreCoins watch held coins = (p : OutPoint) (v : ℕ) → get held p ≡ Some v → (o : Output) × (get coins p ≡ Some o) × (is_watched watch o.script ≡ true)
 
 pub none_held : (watch : List (List ℕ)) (coins : CoinMap) → AreCoins watch empty coins
@@ -55,18 +55,18 @@ get_removed : {X : Type 0} (b : Bool) (o : Option X) (v : X) → cond b None o �
 get_removed true o v e = cc
 get_removed false o v e = (refl, e)
 
-removed_coins : (watch : List (List ℕ)) (held : watched.CoinMap) (coins : CoinMap) (k : OutPoint) → AreCoins watch held coins → AreCoins watch (remove held k) (remove coins k)
+removed_coins : (watch : List (List ℕ)) (held : watched.WatchedMap) (coins : CoinMap) (k : OutPoint) → AreCoins watch held coins → AreCoins watch (remove held k) (remove coins k)
 removed_coins watch held coins k h p v e =
     let w = get_removed (eq_by_cmp outpoint_cmp p k) (get held p) v (sym (get-remove outpoint_total held k p) ∙ e) in
     let o = h p v w.1 in
     (o.0, get-remove outpoint_total coins k p ∙ ap (λ (b : Bool). cond b None (get coins p)) w.0 ∙ o.1, o.2)
 
-taken_coins : (watch : List (List ℕ)) (values : List ℕ) (held : watched.CoinMap) (coins : CoinMap) (ps : List OutPoint) → AreCoins watch held coins
+taken_coins : (watch : List (List ℕ)) (values : List ℕ) (held : watched.WatchedMap) (coins : CoinMap) (ps : List OutPoint) → AreCoins watch held coins
     → AreCoins watch (fold take_one (values, held) ps).1 (without coins ps)
 taken_coins watch values held coins [] h = h
 taken_coins watch values held coins (p ∷ ps) h = taken_coins watch (values ++ option_to_list (get held p)) (remove held p) (remove coins p) ps (removed_coins watch held coins p h)
 
-put_coin : (watch : List (List ℕ)) (held : watched.CoinMap) (coins : CoinMap) (k : OutPoint) (o : Output) → is_watched watch o.script ≡ true → AreCoins watch held coins
+put_coin : (watch : List (List ℕ)) (held : watched.WatchedMap) (coins : CoinMap) (k : OutPoint) (o : Output) → is_watched watch o.script ≡ true → AreCoins watch held coins
     → AreCoins watch (insert held k o.value) (insert coins k o)
 put_coin watch held coins k o is h p v e =
     by_name (eq_by_cmp outpoint_cmp p k) refl (sym (get-insert outpoint_total held k o.value p) ∙ e) where
@@ -75,7 +75,7 @@ put_coin watch held coins k o is h p v e =
       by_name false at f = let w = h p v f in (w.0, get-insert outpoint_total coins k o p ∙ ap (λ (b : Bool). cond b (Some o) (get coins p)) at ∙ w.1, w.2)
 
 -- a coin that isn't watched, put over none
-put_other : (watch : List (List ℕ)) (held : watched.CoinMap) (coins : CoinMap) (k : OutPoint) (o : Output) → get coins k ≡ None → AreCoins watch held coins → AreCoins watch held (insert coins k o)
+put_other : (watch : List (List ℕ)) (held : watched.WatchedMap) (coins : CoinMap) (k : OutPoint) (o : Output) → get coins k ≡ None → AreCoins watch held coins → AreCoins watch held (insert coins k o)
 put_other watch held coins k o fresh h p v e =
     let w = h p v e in
     by_name (eq_by_cmp outpoint_cmp p k) refl w.0 w.1 w.2 where
@@ -84,19 +84,19 @@ put_other watch held coins k o fresh h p v e =
       by_name true at x f is = absurd (let no : None ≡ Some x = sym fresh ∙ ap (λ (q : OutPoint). get coins q) (sym (same_name p k at)) ∙ f in cc)
       by_name false at x f is = (x, get-insert outpoint_total coins k o p ∙ ap (λ (b : Bool). cond b (Some o) (get coins p)) at ∙ f, is)
 
-made_coins : (watch : List (List ℕ)) (txid : List ℕ) (i : ℕ) (held : watched.CoinMap) (coins : CoinMap) (os : List Output) → NoneStands txid i coins os → AreCoins watch held coins
+made_coins : (watch : List (List ℕ)) (txid : List ℕ) (i : ℕ) (held : watched.WatchedMap) (coins : CoinMap) (os : List Output) → NoneStands txid i coins os → AreCoins watch held coins
     → AreCoins watch (fold put_one held (made_from i txid watch os)) (with_outputs txid i coins os)
 made_coins watch txid i held coins [] fresh h = h
 made_coins watch txid i held coins (o ∷ os) fresh h = by_watch (is_watched watch o.script) refl (λ next more. made_coins watch txid (suc i) next (insert coins (outpoint txid i) o) os fresh.1 more) where
   by_watch : (b : Bool) → is_watched watch o.script ≡ b
-      → ((next : watched.CoinMap) → AreCoins watch next (insert coins (outpoint txid i) o)
+      → ((next : watched.WatchedMap) → AreCoins watch next (insert coins (outpoint txid i) o)
       → AreCoins watch (fold put_one next (made_from (suc i) txid watch os)) (with_outputs txid (suc i) (insert coins (outpoint txid i) o) os))
       → AreCoins watch (fold put_one held ((if b then (outpoint txid i, o.value) ∷ [] else []) ++ made_from (suc i) txid watch os)) (with_outputs txid (suc i) (insert coins (outpoint txid i) o) os)
   by_watch true is rest = rest (insert held (outpoint txid i) o.value) (put_coin watch held coins (outpoint txid i) o is h)
   by_watch false is rest = rest held (put_other watch held coins (outpoint txid i) o fresh.0 h)
 
 coins_of_tx : (watch : List (List ℕ)) (height : ℕ) (s : Scanned) (coins : CoinMap) (t : Tx) → IsGoodTx coins t → AreCoins watch s.coins coins → AreCoins watch (after_tx watch height s t).coins (good_after coins t)
-unfolding after_change coins_after take_out
+unfolding after_change watched_after take_out
 coins_of_tx watch height s coins t good h =
     made_coins watch (txid_of t) 0 (fold take_one ([], s.coins) (spends_of t)).1 (without coins (spends_of t)) t.outputs good.fresh (taken_coins watch [] s.coins coins (spends_of t) h)
 
@@ -146,7 +146,7 @@ none_where : (o : Option ℕ) → ((v : ℕ) → o ≡ Some v → ⊥) → o ≡
 none_where None h = refl
 none_where (Some v) h = absurd (h v refl)
 
-unspent : (held : watched.CoinMap) (ps : List OutPoint) → ((p : OutPoint) (v : ℕ) → IsIn p ps → get held p ≡ Some v → ⊥) → AllByRecursion (λ p. get held p ≡ None) ps
+unspent : (held : watched.WatchedMap) (ps : List OutPoint) → ((p : OutPoint) (v : ℕ) → IsIn p ps → get held p ≡ Some v → ⊥) → AllByRecursion (λ p. get held p ≡ None) ps
 unspent held [] none = tt
 unspent held (p ∷ ps) none = (none_where (get held p) (λ v e. none p v (inl refl) e), unspent held ps (λ q v i e. none q v (inr i) e))
 

@@ -39,7 +39,7 @@ counted_part log p = counted (trail log p)
 abbrev pub IsConnected : Log → ℕ → Type 0
 IsConnected log p = connected (trail log p) ≡ true
 
--- nothing is open; something is
+-- no request is open to anybody
 abbrev pub IsQuiet : Log → Type 0
 IsQuiet log = (p : ℕ) → is_open (trail log p) ≡ false
 

@@ -2,8 +2,7 @@
 #![tactic(auto, unfolding(crate::specs::Extracts::table_in))]
 
 ghost use Rattle.std.specs.Prelude.{◌≡◌, ◌∷◌, [], ℕ, List, None, is_some, unwrap_or, fold, IfOk, OnOk, OnErr};
-ghost use Rattle.cf_scan.specs.Book.{Stands};
-ghost use Rattle.cf_scan.specs.Extracts.{after_placed};
+ghost use Rattle.cf_scan.specs.{Stands, after_placed};
 ghost use Rattle.cf_scan.specs.declared.extracts.Placed.{Placed};
 ghost use Rattle.cf_tables.specs.Tables.{placed_one, IsSameTable};
 ghost use Rattle.cf_tables.specs.Held.{CountsBlocks};

@@ -1,6 +1,6 @@
 //! The hash of the first block.
 ghost use Rattle.std.specs.Prelude.{◌≡◌, true, false};
-ghost use Rattle.cf_block.specs.Header.{block_hash_of, genesis_header};
+ghost use Rattle.cf_block.specs.{block_hash_of, genesis_header};
 ghost use Rattle.cf_tables.specs.Wanting.{IsAbove};
 
 use cf_block::{block_hash, genesis_header};

@@ -2,7 +2,7 @@
 #![tactic(auto, unfolding(crate::specs::Judged::verdicts_in))]
 
 ghost use Rattle.std.specs.Prelude.{◌≡◌, ℕ, List, map, None, IfOk, OnOk, OnErr};
-ghost use Rattle.cf_match.specs.Verdicts.{AreSameVerdicts, verdict_of, with_verdicts};
+ghost use Rattle.cf_match.specs.{AreSameVerdicts, verdict_of, with_verdicts};
 ghost use Rattle.cf_tables.specs.Held.{CountsVerdicts};
 ghost use Rattle.cf_tables.specs.Judged.{AreKeptInPart, MoreVerdicts, verdicts_in, put_one, with_one};
 

@@ -2,11 +2,9 @@
 ghost use Rattle.std.specs.Prelude.{◌≡◌, ◌≢◌, ℕ, List, true, false, None, IsSome};
 ghost use Rattle.cf_tables.specs.declared.kind.Kind.{Kind};
 ghost use Rattle.cf_tables.specs.declared.kind.Kind.TheVariants.{Done, Unjudged};
-ghost use Rattle.cf_dispute.specs.Of.{tables_of};
-ghost use Rattle.cf_dispute.specs.Claims.{IsAt};
-ghost use Rattle.cf_dispute.specs.Tables.{blocks_of};
+ghost use Rattle.cf_dispute.specs.{tables_of, IsAt, blocks_of};
 ghost use Rattle.cf_dispute.specs.declared.claim.At.TheVariants.{Differ};
-ghost use Rattle.cf_headers.specs.Chain.{IsIn};
+ghost use Rattle.cf_headers.specs.{IsIn};
 ghost use Rattle.cf_tables.specs.Extracts.{table_in};
 ghost use Rattle.cf_tables.specs.Judged.{verdicts_in};
 ghost use Rattle.cf_tables.specs.Known.{ExtractTable};

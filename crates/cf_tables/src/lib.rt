@@ -1,4 +1,5 @@
-//! What a client keeps of filters and of the blocks that it fetched, and how a block stands by it.
+//! Tables by block: extracts, outputs, verdicts on filters, and tests of filters; and what is still to be done about a
+//! block.
 #![tactic(auto)]
 
 mod extracts;

@@ -1,6 +1,6 @@
 //! The ends of a queue.
 ghost use Rattle.std.specs.Prelude.{◌≡◌, ◌<◌, ◌+◌, ◌^◌, List, [], true, IfOk, IfErr, IfSome, IfNone, OnOk, OnErr};
-ghost use Rattle.cf_bytes.specs.Outside.{HasRisen};
+ghost use Rattle.cf_bytes.specs.{HasRisen};
 ghost use Rattle.crossbeam_channel.specs.Claims.{view, IsSeatAt};
 ghost use Rattle.crossbeam_channel.specs.Ends.{sends_on, receives_on};
 ghost use Rattle.cf_tasks.specs.Queue.{receiver, sender, with_sent, with_got, with_made, with_ended, entry, Accounts};

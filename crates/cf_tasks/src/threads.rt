@@ -1,6 +1,6 @@
 //! Tasks in threads of their own.
 ghost use Rattle.std.specs.Prelude.{◌≡◌, ◌≢◌, ◌⊎◌, ℕ, Bool, true, false, IfOk, IfErr, OnOk, OnErr};
-ghost use Rattle.cf_bytes.specs.Outside.{HasRisen};
+ghost use Rattle.cf_bytes.specs.{HasRisen};
 ghost use Rattle.cf_tasks.specs.Starting.{IsPut};
 ghost use Rattle.cf_tasks.specs.declared.threads.Back.TheVariants.{Done, Unrun};
 ghost use Rattle.cf_tasks.specs.declared.threads.Way.TheVariants.{There, Here};

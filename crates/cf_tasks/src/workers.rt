@@ -2,7 +2,7 @@
 ghost use Rattle.std.specs.Prelude.{◌≡◌, ◌≤◌, ◌+◌, ◌⊎◌, ℕ, IfOk, IfErr, IfSome, IfNone, OnOk, OnErr};
 ghost use Rattle.crossbeam_channel.specs.Claims.{view};
 ghost use Rattle.crossbeam_channel.specs.Ends.{sends_on, receives_on};
-ghost use Rattle.cf_bytes.specs.Outside.{HasRisen};
+ghost use Rattle.cf_bytes.specs.{HasRisen};
 ghost use Rattle.cf_tasks.specs.Starting.{IsPut, ArePut};
 ghost use Rattle.cf_tasks.specs.Queue.{receiver, sender, with_made};
 ghost use Rattle.cf_tasks.specs.Handing.{HasWaited};

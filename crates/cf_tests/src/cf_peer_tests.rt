@@ -1,6 +1,6 @@
 //! Wires in memory: the session lines of a short log.
 ghost use Rattle.std.specs.Prelude.{◌≡◌, [], IfOk, false};
-ghost use Rattle.cf_wires.specs.Memory.{log_of, finished_of};
+ghost use Rattle.cf_wires.specs.{log_of, finished_of};
 
 use cf_bytes::PeerNo;
 use cf_wires::{Delivery, MemoryWires, Name, Piece, Scripted, Wires};

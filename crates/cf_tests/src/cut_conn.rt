@@ -1,8 +1,7 @@
 //! A connection in memory whose bytes come in pieces of uneven lengths.
 ghost use Rattle.std.specs.Prelude.{◌≡◌, ℕ, ◌≤◌, ◌<◌, ◌||◌, [], length, take, drop, Some, IfOk, OnOk, OnErr};
-ghost use Rattle.cf_bytes.specs.Outside.{HasRisen, with_more};
-ghost use Rattle.cf_conn.specs.Source.{with_front, is_end};
-ghost use Rattle.cf_conn.specs.MemoryConn.{Writes};
+ghost use Rattle.cf_bytes.specs.{HasRisen, with_more};
+ghost use Rattle.cf_conn.specs.{with_front, is_end, Writes};
 
 use cf_bytes::{Failed, Sink};
 use cf_conn::{Duplex, MemoryConn, MemoryEnd, Source};
@@ -19,7 +18,7 @@ pub(crate) struct CutConn {
 }
 
 impl Model for CutConn {
-    ghost use Rattle.cf_conn.specs.MemoryConn.{BothWays};
+    ghost use Rattle.cf_conn.specs.{BothWays};
 
     ghost Value = { BothWays };
 

@@ -1,7 +1,7 @@
 //! A connection in memory that may wait until another one was answered. It stands outside the tests, since its list of
 //! connections has a proof.
 ghost use Rattle.std.specs.Prelude.{◌≡◌, All, IfSome, Some, [], false};
-ghost use Rattle.cf_conn.specs.MemoryConn.{Writes};
+ghost use Rattle.cf_conn.specs.{Writes};
 
 use cf_bytes::{Failed, Sink, VecSink};
 use cf_conn::{Duplex, MemoryConn, MemoryEnd, Source};
@@ -32,7 +32,7 @@ pub(crate) struct PatientConn {
 }
 
 impl Model for PatientConn {
-    ghost use Rattle.cf_conn.specs.MemoryConn.{BothWays};
+    ghost use Rattle.cf_conn.specs.{BothWays};
 
     ghost Value = { BothWays };
 

@@ -1,9 +1,8 @@
 //! The history that is written of a chain's blocks.
 ghost use Rattle.std.specs.Prelude.{◌≡◌, ◌∷◌, ◌++◌, [], ◌+◌, ℕ, List, length, take, true, false, IfOk, OnOk, OnErr};
-ghost use Rattle.cf_scan.specs.Extracts.{history_of};
+ghost use Rattle.cf_scan.specs.{history_of};
 ghost use Rattle.cf_tracker.specs.Account.{IsTold, written_in};
-ghost use Rattle.cf_tables.specs.Extracts.{table_in};
-ghost use Rattle.cf_tables.specs.Known.{ExtractTable};
+ghost use Rattle.cf_tables.specs.{table_in, ExtractTable};
 ghost use Rattle.cf_tracker.specs.Written.{IsWrittenHere, placed_written, written_as};
 ghost use Rattle.cf_tracker.specs.declared.account.Written.{Written};
 

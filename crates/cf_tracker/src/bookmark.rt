@@ -1,7 +1,7 @@
 //! Up to where what is written stands on a chain.
 ghost use Rattle.std.specs.Prelude.{◌≡◌, ◌≢◌, ◌≤◌, ℕ, true, None, Some, length};
 ghost use Rattle.cf_headers.specs.Chain.{Chain};
-ghost use Rattle.cf_headers.specs.Heights.{hash_at};
+ghost use Rattle.cf_headers.specs.{hash_at};
 ghost use Rattle.cf_tracker.specs.Writing.{stands_after};
 
 use cf_bytes::{Hash32, PeerNo};

@@ -1,12 +1,10 @@
 //! Which blocks are written, and when.
 ghost use Rattle.std.specs.Prelude.{◌≡◌, ◌+◌, ◌<◌, ◌≤◌, ℕ, true, false, None, Some, IsSome, OnOk, length};
-ghost use Rattle.cf_dispute.specs.Of.{tables_of};
+ghost use Rattle.cf_dispute.specs.{tables_of};
 ghost use Rattle.cf_headers.specs.Chain.{Chain};
-ghost use Rattle.cf_headers.specs.Heights.{common_of, hash_at};
-ghost use Rattle.cf_headers.specs.Store.{own_of};
+ghost use Rattle.cf_headers.specs.{common_of, hash_at, own_of};
 ghost use Rattle.cf_tracker.specs.Account.{IsTold, written_in};
-ghost use Rattle.cf_tables.specs.Extracts.{table_in};
-ghost use Rattle.cf_tables.specs.Judged.{verdicts_in};
+ghost use Rattle.cf_tables.specs.{table_in, verdicts_in};
 ghost use Rattle.cf_tracker.specs.Writing.{AreDone, IsDoneAbove, IsUpTo};
 ghost use Rattle.cf_tracker.specs.Written.{IsWrittenHere, IsWrittenTo, IsWrittenTop, IsWrittenWhole};
 

@@ -1,8 +1,7 @@
 //! Whether a header stands for transactions that are lent.
 ghost use Rattle.std.specs.Prelude.{◌≡◌, map, IfOk};
 ghost use Rattle.std.specs.List.{list_any};
-ghost use Rattle.cf_block.specs.Tx.{tx_spelling};
-ghost use Rattle.cf_block.specs.Commitment.{AreTxids, has_64 as is_64, commit_fault, FindsFault};
+ghost use Rattle.cf_block.specs.{tx_spelling, AreTxids, has_64 as is_64, commit_fault, FindsFault};
 
 use crate::view::BlockView;
 use cf_block::{CommitFault, TxIds, fault_by};

@@ -1,7 +1,7 @@
 //! Items that are read from lent bytes one after another.
 ghost use Rattle.std.specs.Prelude.{◌≡◌, ℕ, List, ◌++◌, length, IfOk, Ok};
 ghost use Rattle.std.specs.List.{flat_map, AllByRecursion};
-ghost use Rattle.cf_bytes.specs.Cut.{Read, Reads};
+ghost use Rattle.cf_bytes.specs.{Read, Reads};
 ghost use Rattle.cf_view.specs.Lent.{AreThere, items_in, GivesFirst};
 ghost use Rattle.cf_view.specs.Items.{LendsItems};
 

@@ -3,14 +3,8 @@ ghost use Rattle.std.specs.Prelude.{ℕ, List, ◌≡◌, ◌/◌, ◌++◌, ◌
 ghost use Rattle.std.specs.Prelude.{IfOk, IfSome, IfNone};
 ghost use Rattle.std.specs.Int.{w32, w64, to_le_bytes, cast_unsigned};
 ghost use Rattle.std.specs.List.{flat_map, AllByRecursion};
-ghost use Rattle.cf_bytes.specs.Cut.{Reads};
-ghost use Rattle.cf_bytes.specs.Compact.{compact};
-ghost use Rattle.cf_bytes.specs.Lists.{list_at};
-ghost use Rattle.cf_block.specs.Commitment.{is_coinbase_tx};
-ghost use Rattle.cf_block.specs.Header.{IsHeader};
-ghost use Rattle.cf_block.specs.Tx.{IsInput, IsOutput, IsTx, IsBlock, max_count, input_spelling, output_spelling};
-ghost use Rattle.cf_block.specs.Tx.{tx_spelling, block_spelling, txid_of};
-ghost use Rattle.cf_block.specs.Reading.{input_at, output_at, tx_fields_at, block_fields_at, block_at};
+ghost use Rattle.cf_bytes.specs.{Reads, compact, list_at};
+ghost use Rattle.cf_block.specs.{is_coinbase_tx, IsHeader, IsInput, IsOutput, IsTx, IsBlock, max_count, input_spelling, output_spelling, tx_spelling, block_spelling, txid_of, input_at, output_at, tx_fields_at, block_fields_at, block_at};
 ghost use Rattle.cf_view.specs.Lent.{GivesFirst, Lends};
 
 use crate::items::Items;
@@ -47,7 +41,8 @@ pub struct OutView<'a> {
 
 impl<'a> Model for OutView<'a> {
     ghost use Rattle.std.specs.Prelude.{pos, nat_abs, ◌≤ℤ◌};
-    ghost use Rattle.cf_block.specs.Output.{Output, max_value};
+    ghost use Rattle.cf_block.specs.{max_value};
+    ghost use Rattle.cf_block.specs.Output.{Output};
 
     ghost Value = { Output };
 
@@ -66,7 +61,7 @@ impl<'a> Model for InsView<'a> {
     ghost use Rattle.std.specs.Prelude.{List};
     ghost use Rattle.cf_block.specs.declared.tx.TxIn.{TxIn};
     ghost use Rattle.cf_view.specs.Lent.{AreThere, items_in};
-    ghost use Rattle.cf_block.specs.Reading.{input_at};
+    ghost use Rattle.cf_block.specs.{input_at};
 
     ghost Value = { List TxIn };
 
@@ -85,7 +80,7 @@ impl<'a> Model for OutsView<'a> {
     ghost use Rattle.std.specs.Prelude.{List};
     ghost use Rattle.cf_block.specs.Output.{Output};
     ghost use Rattle.cf_view.specs.Lent.{AreThere, items_in};
-    ghost use Rattle.cf_block.specs.Reading.{output_at};
+    ghost use Rattle.cf_block.specs.{output_at};
 
     ghost Value = { List Output };
 
@@ -104,7 +99,7 @@ impl<'a> Model for TxsView<'a> {
     ghost use Rattle.std.specs.Prelude.{List};
     ghost use Rattle.cf_block.specs.declared.tx.Tx.{Tx};
     ghost use Rattle.cf_view.specs.Lent.{AreThere, items_in};
-    ghost use Rattle.cf_block.specs.Reading.{tx_fields_at};
+    ghost use Rattle.cf_block.specs.{tx_fields_at};
 
     ghost Value = { List Tx };
 
@@ -145,7 +140,7 @@ pub struct TxView<'a> {
 impl<'a> Model for TxView<'a> {
     ghost use Rattle.std.specs.Prelude.{◌≡◌};
     ghost use Rattle.cf_block.specs.declared.tx.Tx.{Tx};
-    ghost use Rattle.cf_block.specs.Tx.{tx_spelling};
+    ghost use Rattle.cf_block.specs.{tx_spelling};
 
     ghost Value = { Tx };
 

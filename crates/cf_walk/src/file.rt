@@ -1,8 +1,6 @@
 //! What stands in a file of blocks: a block, genesis first, zeros at the end.
 ghost use Rattle.std.specs.Prelude.{◌≡◌, IfOk, IfSome, option_map};
-ghost use Rattle.cf_block.specs.Genesis.{first_block};
-ghost use Rattle.cf_block.specs.Stored.{IsStored, stored_block_at};
-ghost use Rattle.cf_block.specs.Tx.{IsBlock, block_spelling};
+ghost use Rattle.cf_block.specs.{first_block, IsStored, stored_block_at, IsBlock, block_spelling};
 ghost use Rattle.cf_walk.specs.Files.{HasFirst, all_zeros, in_block, is_first, after_genesis};
 ghost use Rattle.cf_walk.specs.Progress.{GivesBlock};
 

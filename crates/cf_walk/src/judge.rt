@@ -1,11 +1,8 @@
 //! What the next block of a chain is judged by, where no block is kept.
 ghost use Rattle.std.specs.Prelude.{◌≡◌, ◌≤◌, ◌<◌, ◌+◌, ◌++◌, ◌∷◌, [], List, suc, OnOk, IfOk, IfSome};
-ghost use Rattle.cf_block.specs.Header.{block_hash_of};
-ghost use Rattle.cf_block.specs.Tx.{IsBlock};
+ghost use Rattle.cf_block.specs.{block_hash_of, IsBlock};
 ghost use Rattle.cf_block.specs.declared.tx.Block.{Block};
-ghost use Rattle.cf_chain.specs.Coins.{after_block};
-ghost use Rattle.cf_chain.specs.Filters.{prevouts};
-ghost use Rattle.cf_chain.specs.Good.{max_height};
+ghost use Rattle.cf_chain.specs.{after_block, prevouts, max_height};
 ghost use Rattle.cf_walk.specs.Judging.{BeginsWith, StandsOn, Walks, after_by, cause_by, next_by, txids_of};
 ghost use Rattle.cf_walk.specs.Progress.{FindsCause};
 

@@ -1,13 +1,11 @@
 //! A walk over the records of a source, one block in memory at a time.
 ghost use Rattle.std.specs.Prelude.{◌≡◌, ◌⊎◌, ◌+◌, ◌^◌, ◌≤◌, ◌<◌, ◌++◌, ◌∷◌, [], List, ℕ, Option, Some, None, Bool, true, false, drop, length, option_map, IfOk, IfSome, IfNone, OnOk, OnErr};
 ghost use Rattle.cf_block.specs.declared.tx.Block.{Block};
-ghost use Rattle.cf_block.specs.Commitment.{AreTxids};
-ghost use Rattle.cf_block.specs.Tx.{IsBlock};
-ghost use Rattle.cf_conn.specs.Source.{with_front};
+ghost use Rattle.cf_block.specs.{AreTxids, IsBlock};
+ghost use Rattle.cf_conn.specs.{with_front, CountsReads, IsOver, beyond, seen};
 ghost use Rattle.cf_conn.specs.Steps.{Steps};
-ghost use Rattle.cf_conn.specs.Window.{CountsReads, IsOver, beyond, seen};
-ghost use Rattle.cf_headers.specs.Chain.{tip_hash};
-ghost use Rattle.cf_chain.specs.Good.{headers_of};
+ghost use Rattle.cf_headers.specs.{tip_hash};
+ghost use Rattle.cf_chain.specs.{headers_of};
 ghost use Rattle.cf_walk.specs.Files.{after_genesis, all_zeros};
 ghost use Rattle.cf_walk.specs.declared.judge.Judge.{Judge};
 ghost use Rattle.cf_walk.specs.Judging.{BeginsWith, IsBlank, IsReady, IsWhole, StandsOn, Strips, Walks, WalksOver, after_by, next_by};

@@ -7,7 +7,7 @@ use Rattle.cf_wires.specs.declared.event.Dial.{Dial}
 use Rattle.cf_wires.specs.declared.event.Event.{Event}
 use Rattle.cf_wires.specs.declared.event.Event.TheVariants.{Dialled, NotDialled, Sent, SendFailed, Closed, Took}
 use Rattle.cf_wires.specs.declared.event.Mark.{Mark}
-use Rattle.cf_wires.specs.declared.event.Mark.TheVariants.{NotYet, Called, Missed, Left, Shut, Broken}
+use Rattle.cf_wires.specs.declared.event.Mark.TheVariants as mark
 
 -- all that passed the wires, the newest entry first: every proper end of the list is an earlier moment
 abbrev pub Log : Type 0
@@ -28,22 +28,22 @@ marked t p m = record t { marks = slice_set t.marks p.0 m }
 -- the tally after one more delivery
 abbrev pub noted_delivery : Delivery → Tally → Tally
 noted_delivery (Got p piece) t = record t { taken = t.taken + 1 }
-noted_delivery (Gone p) t = record (marked t p Left) { taken = t.taken + 1 }
+noted_delivery (Gone p) t = record (marked t p mark.Gone) { taken = t.taken + 1 }
 noted_delivery (Tick s) t = record t { taken = t.taken + 1 }
 noted_delivery Ended t = record t { ended = t.ended + 1 }
 
 -- the tally after one more entry
 abbrev pub noted : Event → Tally → Tally
-noted (Dialled p name) t = record (marked t p Called) { dials = t.dials + 1 }
-noted (NotDialled p name) t = record (marked t p Missed) { dials = t.dials + 1 }
+noted (Dialled p name) t = record (marked t p mark.Dialled) { dials = t.dials + 1 }
+noted (NotDialled p name) t = record (marked t p mark.NotDialled) { dials = t.dials + 1 }
 noted (Sent p bytes) t = t
-noted (SendFailed p) t = marked t p Broken
-noted (Closed p) t = record (marked t p Shut) { closed = slice_set t.closed p.0 true }
+noted (SendFailed p) t = marked t p mark.SendFailed
+noted (Closed p) t = record (marked t p mark.Closed) { closed = slice_set t.closed p.0 true }
 noted (Took d) t = noted_delivery d t
 
 -- nothing has passed
 abbrev pub nothing_yet : Tally
-nothing_yet = record { marks = replicate 9 NotYet; closed = replicate 9 false; dials = 0; taken = 0; ended = 0 }
+nothing_yet = record { marks = replicate 9 mark.NotYet; closed = replicate 9 false; dials = 0; taken = 0; ended = 0 }
 
 -- the tally of a log
 abbrev pub tally_of : Log → Tally
@@ -52,7 +52,7 @@ tally_of (e ∷ log) = noted e (tally_of log)
 
 -- how the peer with this number stands
 abbrev pub mark_of : Tally → ℕ → Mark
-mark_of t p = slice_index_or t.marks p NotYet
+mark_of t p = slice_index_or t.marks p mark.NotYet
 
 -- the peer with this number was closed
 abbrev pub was_closed : Tally → ℕ → Bool

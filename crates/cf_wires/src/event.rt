@@ -92,15 +92,15 @@ pub enum Mark {
     /// It was not dialled yet.
     NotYet,
     /// It was dialled.
-    Called,
+    Dialled,
     /// Its dial failed.
-    Missed,
+    NotDialled,
     /// It has gone.
-    Left,
+    Gone,
     /// It was closed.
-    Shut,
+    Closed,
     /// A send to it failed.
-    Broken,
+    SendFailed,
 }
 
 impl Delivery {

@@ -1,7 +1,7 @@
 //! Wires in memory: how each dial goes, the deliveries, a list of the calls that fail, and a log that is always told.
 ghost use Rattle.std.specs.Prelude.{◌≡◌, ◌≤◌, ◌<◌, ◌+◌, ℕ, Some, reverse, length, [], ◌∷◌, ◌++◌, OnOk, OnErr, IfOk, IsErrOf, true, false, not, take, vec_len, vec_capacity};
 ghost use Rattle.std.specs.List.{list_all, count_by};
-ghost use Rattle.cf_bytes.specs.Outside.{HasRisen};
+ghost use Rattle.cf_bytes.specs.{HasRisen};
 ghost use Rattle.cf_wires.specs.Log.{tally_of, tell, deliveries, dials as dials_of, is_real};
 ghost use Rattle.cf_wires.specs.Dials.{WentAsMade, answered_at, calls_in, is_to_fail, fails_after, answers_after, goes_as_made};
 

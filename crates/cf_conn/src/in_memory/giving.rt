@@ -1,6 +1,6 @@
 //! How bytes in memory are given to reads.
 ghost use Rattle.std.specs.Prelude.{◌≡◌, ◌<◌, ◌||◌, true, false, [], length, take, drop, IfOk, OnOk, OnErr};
-ghost use Rattle.cf_bytes.specs.Plan.{after_call};
+ghost use Rattle.cf_bytes.specs.{after_call};
 ghost use Rattle.cf_conn.specs.Source.{is_end};
 ghost use Rattle.cf_conn.specs.SliceSource.{lent_at, read_answer};
 

@@ -1,7 +1,6 @@
 //! A connection in memory, and what stays of it.
 ghost use Rattle.std.specs.Prelude.{◌≡◌, ◌≤◌, ◌<◌, ◌||◌, false, [], length, take, drop, Some, IfOk, OnOk, OnErr};
-ghost use Rattle.cf_bytes.specs.Outside.{HasRisen, with_more};
-ghost use Rattle.cf_bytes.specs.VecSink.{write_answer, after_write};
+ghost use Rattle.cf_bytes.specs.{HasRisen, with_more, write_answer, after_write};
 ghost use Rattle.cf_conn.specs.Source.{with_front, is_end};
 ghost use Rattle.cf_conn.specs.SliceSource.{read_answer, after_read};
 ghost use Rattle.cf_conn.specs.MemoryConn.{Writes};

@@ -1,6 +1,6 @@
 //! A source over a slice.
 ghost use Rattle.std.specs.Prelude.{◌≡◌, ◌≤◌, ◌<◌, ◌||◌, false, [], length, take, drop, Some, IfOk, OnOk, OnErr};
-ghost use Rattle.cf_bytes.specs.Outside.{HasRisen};
+ghost use Rattle.cf_bytes.specs.{HasRisen};
 ghost use Rattle.cf_conn.specs.Source.{with_front, is_end};
 ghost use Rattle.cf_conn.specs.SliceSource.{read_answer, after_read};
 

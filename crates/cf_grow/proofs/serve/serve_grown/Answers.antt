@@ -14,7 +14,7 @@ use Rattle.cf_grow.proofs.serve.serve_grown.Goals as goal
 
 pub loop-session-init : goal.loop-session-init
 loop-session-init g c =
-    let z : ℤ = to_z w64 (of_z w64 c.args.now) in
+    let z : ℤ = to_z w64 (of_z w64 c.args.moment) in
     let left = g.C.Source.left c.args.conn.now in
     let written = g.C.Sink.written c.args.conn.now in
     let mark = c.new-2.result in
@@ -31,27 +31,27 @@ returns-in-Ok-eq0-clause-served g c =
     let session = c.loop-session.session in
     let found = c.in-Ok-eq0 in
     let written = g.C.Sink.written c.loop-session.conn in
-    served_ends (g.C.Source.left c.args.conn.now) _ c.args.now c.args.nonce (take found.field-0 c.receive.new.into) (g.C.Source.left c.loop-session.conn) (g.C.Source.left c.receive.new.self)
-    session.left session.framer (mark_of session.mark) (g.C.Sink.written c.args.conn.now) written (g.C.Sink.written c.receive.new.self) (ServedSo Closed) (to_z-of_z w64 c.args.now c.ranges.now)
+    served_ends (g.C.Source.left c.args.conn.now) _ c.args.moment c.args.nonce (take found.field-0 c.receive.new.into) (g.C.Source.left c.loop-session.conn) (g.C.Source.left c.receive.new.self)
+    session.left session.framer (mark_of session.mark) (g.C.Sink.written c.args.conn.now) written (g.C.Sink.written c.receive.new.self) (ServedSo Closed) (to_z-of_z w64 c.args.moment c.ranges.moment)
     c.loop-session.invariant.midway found.ensures.ok (ap (λ n. take n c.receive.new.into) found.field-0-test) found.ensures.written c.loop-session.invariant.room
-    (λ n. stops_closed c.args.now c.args.nonce n session.framer (mark_of session.mark) written c.loop-session.invariant.waiting)
+    (λ n. stops_closed c.args.moment c.args.nonce n session.framer (mark_of session.mark) written c.loop-session.invariant.waiting)
 
 pub returns-in-Err-clause-served : goal.returns-in-Err-clause-served
 returns-in-Err-clause-served g c =
     let session = c.loop-session.session in
     let written = g.C.Sink.written c.loop-session.conn in
-    served_ends (g.C.Source.left c.args.conn.now) _ c.args.now c.args.nonce [] (g.C.Source.left c.loop-session.conn) (g.C.Source.left c.receive.new.self)
-    session.left session.framer (mark_of session.mark) (g.C.Sink.written c.args.conn.now) written (g.C.Sink.written c.receive.new.self) (ServedSo ReadFault) (to_z-of_z w64 c.args.now c.ranges.now)
+    served_ends (g.C.Source.left c.args.conn.now) _ c.args.moment c.args.nonce [] (g.C.Source.left c.loop-session.conn) (g.C.Source.left c.receive.new.self)
+    session.left session.framer (mark_of session.mark) (g.C.Sink.written c.args.conn.now) written (g.C.Sink.written c.receive.new.self) (ServedSo ReadFault) (to_z-of_z w64 c.args.moment c.ranges.moment)
     c.loop-session.invariant.midway (unread (g.C.Source.left c.loop-session.conn) (g.C.Source.left c.receive.new.self) c.in-Err.ensures.err) refl c.in-Err.ensures.written c.loop-session.invariant.room
-    (λ n. stops_unread c.args.now c.args.nonce n session.framer (mark_of session.mark) written c.loop-session.invariant.waiting)
+    (λ n. stops_unread c.args.moment c.args.nonce n session.framer (mark_of session.mark) written c.loop-session.invariant.waiting)
 
 pub returns-in-Err-take_piece-clause-served : goal.returns-in-Err-take_piece-clause-served
 returns-in-Err-take_piece-clause-served g c =
     let session = c.loop-session.session in
     let ended = c.in-Err-take_piece in
-    served_last (g.C.Source.left c.args.conn.now) _ c.args.now _ c.args.nonce _ (take c.in-Ok.n c.receive.new.into) (g.C.Source.left c.loop-session.conn) (g.C.Source.left c.receive.new.self) (g.C.Source.left c.take_piece.new.conn)
+    served_last (g.C.Source.left c.args.conn.now) _ c.args.moment _ c.args.nonce _ (take c.in-Ok.n c.receive.new.into) (g.C.Source.left c.loop-session.conn) (g.C.Source.left c.receive.new.self) (g.C.Source.left c.take_piece.new.conn)
     session.left session.framer (mark_of session.mark) (g.C.Sink.written c.args.conn.now) (g.C.Sink.written c.loop-session.conn) (g.C.Sink.written c.receive.new.self) (g.C.Sink.written c.take_piece.new.conn) ended.ending
-    (to_z-of_z w64 c.args.now c.ranges.now) c.loop-session.invariant.midway c.in-Ok.ensures.ok ended.ensures.left c.in-Ok.ensures.written c.loop-session.invariant.time c.loop-session.invariant.number ended.ensures.takes
+    (to_z-of_z w64 c.args.moment c.ranges.moment) c.loop-session.invariant.midway c.in-Ok.ensures.ok ended.ensures.left c.in-Ok.ensures.written c.loop-session.invariant.time c.loop-session.invariant.number ended.ensures.takes
 
 pub loop-session-preserved : goal.loop-session-preserved
 loop-session-preserved g c =
@@ -60,7 +60,7 @@ loop-session-preserved g c =
     let took = c.in_default in
     let i = c.loop-session.invariant in
     record {
-      midway = midway_goes (g.C.Source.left c.args.conn.now) (to_z w64 (of_z w64 c.args.now)) _ c.args.nonce _ (take c.in-Ok.n c.receive.new.into) (g.C.Source.left c.loop-session.conn) (g.C.Source.left c.receive.new.self)
+      midway = midway_goes (g.C.Source.left c.args.conn.now) (to_z w64 (of_z w64 c.args.moment)) _ c.args.nonce _ (take c.in-Ok.n c.receive.new.into) (g.C.Source.left c.loop-session.conn) (g.C.Source.left c.receive.new.self)
           (g.C.Source.left c.take_piece.new.conn) session.left next.left session.framer next.framer (mark_of session.mark) (mark_of next.mark) (g.C.Sink.written c.args.conn.now) (g.C.Sink.written c.loop-session.conn)
           (g.C.Sink.written c.receive.new.self) (g.C.Sink.written c.take_piece.new.conn) i.midway c.in-Ok.ensures.ok took.ensures.left c.in-Ok.ensures.written i.time i.number took.ensures.takes;
       time = took.ensures.moment.0 ∙ i.time;

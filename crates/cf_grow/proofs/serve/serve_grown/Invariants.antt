@@ -7,9 +7,9 @@ use Rattle.cf_grow.proofs.serve.serve_grown.Given as goal
 
 abbrev pub invariant-loop-session : goal.invariant-loop-session
 invariant-loop-session g l = record {
-  midway : IfSome (g.C.Source.left l.fn.conn) (λ bytes. Midway l.fn.now l.nonce bytes (g.C.Source.left l.conn) l.session.left l.session.framer
+  midway : IfSome (g.C.Source.left l.fn.conn) (λ bytes. Midway l.fn.moment l.nonce bytes (g.C.Source.left l.conn) l.session.left l.session.framer
       (mark_of l.session.mark) (g.C.Sink.written l.fn.conn) (g.C.Sink.written l.conn));
-  time : l.session.mark.served.time ≡ l.fn.now;
+  time : l.session.mark.served.time ≡ l.fn.moment;
   number : l.session.mark.served.nonce ≡ l.nonce;
   waiting : front_of l.session.framer ≡ Ok None;
   room : 1 ≤ l.session.left;

@@ -14,7 +14,7 @@ use Rattle.cf_server.proofs.serve.serve_one.Goals as goal
 
 pub loop-session-init : goal.loop-session-init
 loop-session-init g c =
-    let start : Serving = record { time = to_z w64 (of_z w64 c.args.now); nonce = c.args.nonce; seen = false } in
+    let start : Serving = record { time = to_z w64 (of_z w64 c.args.moment); nonce = c.args.nonce; seen = false } in
     let left = g.C.Source.left c.args.conn.now in
     let written = g.C.Sink.written c.args.conn.now in
     let midway = if_some_each left (λ bytes. Midway c.args.index.now start bytes left 1000000 c.new.result c.new-2.result written written)
@@ -28,35 +28,35 @@ pub returns-in-Ok-eq0-clause-served : goal.returns-in-Ok-eq0-clause-served
 returns-in-Ok-eq0-clause-served g c =
     let session = c.loop-session.session in
     let found = c.in-Ok-eq0 in
-    served_ends (g.C.Source.left c.args.conn.now) c.args.index.now _ c.args.now c.args.nonce (take found.field-0 c.receive.new.into) (g.C.Source.left c.loop-session.conn) (g.C.Source.left c.receive.new.self)
-    session.left session.framer session.served (g.C.Sink.written c.args.conn.now) (g.C.Sink.written c.loop-session.conn) (g.C.Sink.written c.receive.new.self) Closed (to_z-of_z w64 c.args.now c.ranges.now) c.loop-session.invariant.midway
+    served_ends (g.C.Source.left c.args.conn.now) c.args.index.now _ c.args.moment c.args.nonce (take found.field-0 c.receive.new.into) (g.C.Source.left c.loop-session.conn) (g.C.Source.left c.receive.new.self)
+    session.left session.framer session.served (g.C.Sink.written c.args.conn.now) (g.C.Sink.written c.loop-session.conn) (g.C.Sink.written c.receive.new.self) Closed (to_z-of_z w64 c.args.moment c.ranges.moment) c.loop-session.invariant.midway
     found.ensures.ok (ap (λ n. take n c.receive.new.into) found.field-0-test) found.ensures.written c.loop-session.invariant.room c.loop-session.invariant.waiting (λ stop is. is) (λ a b t whole. whole)
 
 pub returns-in-Err-clause-served : goal.returns-in-Err-clause-served
 returns-in-Err-clause-served g c =
     let session = c.loop-session.session in
-    served_ends (g.C.Source.left c.args.conn.now) c.args.index.now _ c.args.now c.args.nonce [] (g.C.Source.left c.loop-session.conn) (g.C.Source.left c.receive.new.self)
-    session.left session.framer session.served (g.C.Sink.written c.args.conn.now) (g.C.Sink.written c.loop-session.conn) (g.C.Sink.written c.receive.new.self) ReadFault (to_z-of_z w64 c.args.now c.ranges.now) c.loop-session.invariant.midway
+    served_ends (g.C.Source.left c.args.conn.now) c.args.index.now _ c.args.moment c.args.nonce [] (g.C.Source.left c.loop-session.conn) (g.C.Source.left c.receive.new.self)
+    session.left session.framer session.served (g.C.Sink.written c.args.conn.now) (g.C.Sink.written c.loop-session.conn) (g.C.Sink.written c.receive.new.self) ReadFault (to_z-of_z w64 c.args.moment c.ranges.moment) c.loop-session.invariant.midway
     (unread (g.C.Source.left c.loop-session.conn) (g.C.Source.left c.receive.new.self) c.in-Err.ensures.err) refl c.in-Err.ensures.written c.loop-session.invariant.room c.loop-session.invariant.waiting (λ stop is. is) (λ a b t whole. whole)
 
 pub returns-in-Err-take_piece-clause-served : goal.returns-in-Err-take_piece-clause-served
 returns-in-Err-take_piece-clause-served g c =
     let session = c.loop-session.session in
     let ended = c.in-Err-take_piece in
-    served_last (g.C.Source.left c.args.conn.now) c.args.index.now _ c.args.now c.args.nonce (take c.in-Ok.n c.receive.new.into) (g.C.Source.left c.loop-session.conn) (g.C.Source.left c.receive.new.self) (g.C.Source.left c.take_piece.new.conn)
+    served_last (g.C.Source.left c.args.conn.now) c.args.index.now _ c.args.moment c.args.nonce (take c.in-Ok.n c.receive.new.into) (g.C.Source.left c.loop-session.conn) (g.C.Source.left c.receive.new.self) (g.C.Source.left c.take_piece.new.conn)
     session.left session.framer session.served (g.C.Sink.written c.args.conn.now) (g.C.Sink.written c.loop-session.conn) (g.C.Sink.written c.receive.new.self) (g.C.Sink.written c.take_piece.new.conn) ended.outcome
-    (to_z-of_z w64 c.args.now c.ranges.now) c.loop-session.invariant.midway c.in-Ok.ensures.ok ended.ensures.left c.in-Ok.ensures.written ended.ensures.takes
+    (to_z-of_z w64 c.args.moment c.ranges.moment) c.loop-session.invariant.midway c.in-Ok.ensures.ok ended.ensures.left c.in-Ok.ensures.written ended.ensures.takes
 
 pub returns-in-Ok-eq0-clause-in_turn : goal.returns-in-Ok-eq0-clause-in_turn
 returns-in-Ok-eq0-clause-in_turn g c =
     let found = c.in-Ok-eq0 in
-    turn_ends g.C.Source.left g.C.Sink.written (g.C.Source.left c.args.conn.now) _ c.args.now c.args.nonce c.args.index.now (take found.field-0 c.receive.new.into) (g.C.Sink.written c.args.conn.now)
-    (g.C.Source.left c.loop-session.conn) (g.C.Source.left c.receive.new.self) (to_z-of_z w64 c.args.now c.ranges.now) c.loop-session.invariant.turns found.ensures.ok (ap (λ n. take n c.receive.new.into) found.field-0-test)
+    turn_ends g.C.Source.left g.C.Sink.written (g.C.Source.left c.args.conn.now) _ c.args.moment c.args.nonce c.args.index.now (take found.field-0 c.receive.new.into) (g.C.Sink.written c.args.conn.now)
+    (g.C.Source.left c.loop-session.conn) (g.C.Source.left c.receive.new.self) (to_z-of_z w64 c.args.moment c.ranges.moment) c.loop-session.invariant.turns found.ensures.ok (ap (λ n. take n c.receive.new.into) found.field-0-test)
 
 pub returns-in-Err-clause-in_turn : goal.returns-in-Err-clause-in_turn
 returns-in-Err-clause-in_turn g c =
-    turn_ends g.C.Source.left g.C.Sink.written (g.C.Source.left c.args.conn.now) _ c.args.now c.args.nonce c.args.index.now [] (g.C.Sink.written c.args.conn.now)
-    (g.C.Source.left c.loop-session.conn) (g.C.Source.left c.receive.new.self) (to_z-of_z w64 c.args.now c.ranges.now) c.loop-session.invariant.turns
+    turn_ends g.C.Source.left g.C.Sink.written (g.C.Source.left c.args.conn.now) _ c.args.moment c.args.nonce c.args.index.now [] (g.C.Sink.written c.args.conn.now)
+    (g.C.Source.left c.loop-session.conn) (g.C.Source.left c.receive.new.self) (to_z-of_z w64 c.args.moment c.ranges.moment) c.loop-session.invariant.turns
     (unread (g.C.Source.left c.loop-session.conn) (g.C.Source.left c.receive.new.self) c.in-Err.ensures.err) refl
 
 pub returns-in-Err-take_piece-clause-in_turn : goal.returns-in-Err-take_piece-clause-in_turn
@@ -65,8 +65,8 @@ returns-in-Err-take_piece-clause-in_turn g c =
     let after = g.C.Source.left c.take_piece.new.conn in
     let session = c.loop-session.session in
     let ended = c.in-Err-take_piece in
-    subst (λ (y : ℤ). IfSome told (λ bytes. AnswersFirst g.C.Source.left g.C.Sink.written (owed_for y c.args.nonce c.args.index.now) bytes (g.C.Sink.written c.args.conn.now) after)) (to_z-of_z w64 c.args.now c.ranges.now)
-    (turn_goes g.C.Source.left g.C.Sink.written told c.args.index.now (to_z w64 (of_z w64 c.args.now)) c.args.nonce (take c.in-Ok.n c.receive.new.into) (g.C.Sink.written c.args.conn.now) (g.C.Source.left c.receive.new.self) after
+    subst (λ (y : ℤ). IfSome told (λ bytes. AnswersFirst g.C.Source.left g.C.Sink.written (owed_for y c.args.nonce c.args.index.now) bytes (g.C.Sink.written c.args.conn.now) after)) (to_z-of_z w64 c.args.moment c.ranges.moment)
+    (turn_goes g.C.Source.left g.C.Sink.written told c.args.index.now (to_z w64 (of_z w64 c.args.moment)) c.args.nonce (take c.in-Ok.n c.receive.new.into) (g.C.Sink.written c.args.conn.now) (g.C.Source.left c.receive.new.self) after
     c.loop-session.conn session.left session.framer session.served c.loop-session.invariant.midway c.loop-session.invariant.room c.loop-session.invariant.waiting c.loop-session.invariant.turns c.in-Ok.ensures.ok ended.ensures.left)
 
 pub loop-session-preserved : goal.loop-session-preserved
@@ -75,7 +75,7 @@ loop-session-preserved g c =
     let session = c.loop-session.session in
     let next = c.take_piece.new.session in
     let between = g.C.Source.left c.receive.new.self in
-    let start : Serving = record { time = to_z w64 (of_z w64 c.args.now); nonce = c.args.nonce; seen = false } in
+    let start : Serving = record { time = to_z w64 (of_z w64 c.args.moment); nonce = c.args.nonce; seen = false } in
     let took = c.in_default in
     let i = c.loop-session.invariant in
     record {

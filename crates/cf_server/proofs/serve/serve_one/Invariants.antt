@@ -7,8 +7,8 @@ use Rattle.cf_server.proofs.serve.serve_one.Given as goal
 
 abbrev pub invariant-loop-session : goal.invariant-loop-session
 invariant-loop-session g l = record {
-  midway : IfSome (g.C.Source.left l.fn.conn) (λ bytes. Midway l.index (record { time = l.fn.now; nonce = l.nonce; seen = false }) bytes (g.C.Source.left l.conn) l.session.left l.session.framer l.session.served (g.C.Sink.written l.fn.conn) (g.C.Sink.written l.conn));
-  turns : IfSome (g.C.Source.left l.fn.conn) (λ bytes. AnswersFirst g.C.Source.left g.C.Sink.written (owed_for l.fn.now l.nonce l.index) bytes (g.C.Sink.written l.fn.conn) (g.C.Source.left l.conn));
+  midway : IfSome (g.C.Source.left l.fn.conn) (λ bytes. Midway l.index (record { time = l.fn.moment; nonce = l.nonce; seen = false }) bytes (g.C.Source.left l.conn) l.session.left l.session.framer l.session.served (g.C.Sink.written l.fn.conn) (g.C.Sink.written l.conn));
+  turns : IfSome (g.C.Source.left l.fn.conn) (λ bytes. AnswersFirst g.C.Source.left g.C.Sink.written (owed_for l.fn.moment l.nonce l.index) bytes (g.C.Sink.written l.fn.conn) (g.C.Source.left l.conn));
   waiting : front_of l.session.framer ≡ Ok None;
   room : 1 ≤ l.session.left;
   write_count : g.C.Sink.faults l.conn ≡ g.C.Sink.faults l.fn.conn;

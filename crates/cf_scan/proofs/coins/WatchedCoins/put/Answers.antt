@@ -1,7 +1,7 @@
 use Rattle.std.proofs.Common.{◌∙◌, ap, arith, ◌<◌, ◌^◌}
 use Rattle.std.specs.Prelude.{unwrap_or}
 use Rattle.cf_scan.proofs.CoinMaps.{inserted_coin, kept_inserted, kept_small}
-use Rattle.cf_scan.proofs.coins.Coins.put.Goals as goal
+use Rattle.cf_scan.proofs.coins.WatchedCoins.put.Goals as goal
 
 pub overflow_add-self : goal.overflow_add-self
 overflow_add-self c =
