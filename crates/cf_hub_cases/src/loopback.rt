@@ -6,6 +6,14 @@ use crate::serving::serve;
 use cf_rows::Host;
 use std::thread;
 
+// Whether the call that serves has ended with `Done`, and has written nothing.
+fn is_done(told: &Option<String>) -> bool {
+    match told {
+        Some(text) => text.as_str() == "0 Done\n",
+        None => false,
+    }
+}
+
 // What the calls that follow come to, and whether the one that serves ends with `Done` and writes nothing.
 fn both<R: Host>(
     rt: HostRuntime,
@@ -19,10 +27,8 @@ fn both<R: Host>(
     let theirs = same(&port)?;
     let server = thread::spawn(&handle, move || serve(rt, handle, serving, blocks, theirs)).ok()?;
     let text = follow(rt, handle, words, watch, listening(&rt, &port)?)?;
-    let word = match server.join(&handle) {
-        Some(told) if told.as_str() == "0 Done\n" => "served",
-        _ => "unserved",
-    };
+    let told = server.join(&handle);
+    let word = if is_done(&told) { "served" } else { "unserved" };
     format!(in rt.alloc(); "{text}{word}").ok()
 }
 
