@@ -156,7 +156,7 @@ IsTip blocks first height (Some hash) = (height ≤ length blocks) × (top_hash 
 abbrev pub IsTold : List Block → ℕ → Trail → ℕ → Type 0
 IsTold blocks first t height = IsTip blocks first height (last_told t)
 
--- no other connected peer has shown another chain that is as long
+-- no other connected peer has shown another chain that is at least as long
 abbrev pub OthersShowNone : Log → ℕ → List Block → Type 0
 OthersShowNone log p blocks =
     (q : ℕ) (other : Chain) → q ≢ p → IsConnected log q → Shows (lists (counted_part log q)) other
@@ -165,8 +165,8 @@ OthersShowNone log p blocks =
 -- ---- what follows
 
 -- The follow theorem: where p grows, and no two of the strings that were hashed have one hash, p is never closed and
--- is still connected; and where no other connected peer has shown another chain as long as the one that p told of
--- last, with nothing open the tip and the history are those of that chain, each of its blocks scanned.
+-- is still connected; and where no other connected peer has shown another chain at least as long as the one that p
+-- told of last, with nothing open the tip and the history are those of that chain, each of its blocks scanned.
 pub record FollowTheorem (watch : List (List ℕ)) (height : ℕ) (hash : Hash32) (entries : List HistoryEntry)
     (log : Log) : Type 0 where
   pub never : (p : ℕ) (blocks : List Block) (first : ℕ) → NoHashClash (IsHashed log blocks)
