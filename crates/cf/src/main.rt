@@ -1,6 +1,6 @@
-//! `cf`: the program. Its words, the clock and a random number go to `run` (cf_cli), whose text goes to standard output;
-//! what it does over the network, and what went wrong, is told on standard error, and the exit status says which way
-//! the call ended.
+//! `cf`: the program. Its words, the clock and a random number go to `run` (cf_cli), whose text goes to standard
+//! output; what it does over the network, and what went wrong, is told on standard error, and the exit status says
+//! which way the call ended.
 #![tactic(auto)]
 
 ghost use Rattle.std.specs.Prelude.{◌≡◌};

@@ -42,8 +42,8 @@ pub fn a_silent_peer_is_left_with_another_chain()
 {}
 
 /// Of three peers, one with other filters, one silent on a longer chain and one honest, nobody who is connected once
-/// nothing is open has shown another chain at least as long as the honest one's. So the tip and the history are those of that
-/// chain.
+/// nothing is open has shown another chain at least as long as the honest one's. So the tip and the history are those
+/// of that chain.
 pub fn three_played_peers_tell_the_honest_chain()
     ensures other { (watch : List (List ℕ)) (height : ℕ) (hash : Hash32)
         (entries : List Entry) (log : Log) (chain longer : List Block) → IsRun log → AreTwoChains chain longer log

@@ -1,5 +1,5 @@
 //! The serving machine of a chain that grows: it takes the blocks that its connections bring, and tells each of them of
-//! the new tip. And what a server has, with each of its connections, of such a chain and of one that stands still.
+//! the new tip. And the serving machines as services, of such a chain and of one that stands still.
 #![tactic(auto)]
 
 mod ending;

@@ -1,4 +1,4 @@
--- machine: what contracts see of wires that tell the user what passes.
+-- machine: what contracts see of the hub of a row: what it tells as wires.
 use Rattle.std.specs.Prelude.{ℕ, Bool}
 use Rattle.cf_wires.specs.Log.{Told}
 

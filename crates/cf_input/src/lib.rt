@@ -1,4 +1,5 @@
-//! What a user gives the program: the words of a command, numbers, the watch file and the session file.
+//! What a user gives the program: the words of a command, numbers, addresses, the watch file, the session file and that
+//! of a proof.
 #![tactic(auto)]
 
 mod addresses;

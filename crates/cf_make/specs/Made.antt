@@ -1,4 +1,4 @@
--- statement: made chains, for tests: chains of regtest in which every byte is told by a seed and a height, but for the nonces, which are mined.
+-- statement: made chains, for `make`, `demo` and tests: chains of regtest in which every byte is told by a seed and a height, but for the nonces, which are mined.
 use Rattle.std.specs.Prelude.{◌≡◌, ◌<◌, ◌^◌, ◌+◌, ◌*◌, ◌%◌, ◌==◌, ℕ, suc, pos, if◌then◌else◌, List, [], ◌∷◌, ◌++◌, map, length, replicate, Option, Some, None, Result, Ok, Err}
 use Rattle.std.specs.Int.{w32, w64, to_le_bytes}
 use Rattle.cf_bytes.specs.declared.memory.Refused.{Refused}

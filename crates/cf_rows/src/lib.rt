@@ -1,4 +1,4 @@
-//! What the programs that print what rows come to have in common: calls of the program in memory, and their texts.
+//! What cf_cases, cf_hub_cases and cf_tests have in common: calls of the program in memory, and their texts.
 #![tactic(auto)]
 
 mod calls;
