@@ -15,9 +15,10 @@ use Rattle.cf_peer.specs.declared.mode.Mode.{Mode}
 use Rattle.cf_wires.specs.declared.event.Delivery.{Delivery}
 use Rattle.cf_wires.specs.declared.event.Delivery.TheVariants.{Got, Gone, Tick, Ended}
 use Rattle.cf_wires.specs.declared.event.Event.TheVariants.{Sent, Closed, Took}
+use Rattle.cf_wires.specs.declared.event.Mark.TheVariants as mark
 use Rattle.cf_peer.specs.Acts.{bytes_of}
 use Rattle.cf_wires.specs.Log.{Log}
-use Rattle.cf_peer.specs.Trail.{Trail, Part, Lost, Went, Shutting, part_of, trail, asks, spelled, with_item, heard_part, connected, greeted, is_version}
+use Rattle.cf_peer.specs.Trail.{Trail, Part, Lost, part_of, trail, asks, spelled, with_item, heard_part, connected, greeted, is_version}
 use Rattle.cf_peer.specs.Asking.{MayAskIn}
 use Rattle.cf_sync.specs.Fetching.{Rule}
 use Rattle.cf_client.specs.declared.client.Client.{Client}
@@ -55,13 +56,13 @@ sent_greeted log p bytes all = λ q.
     at_if (p.0 == q) (record (part_of log q) { trail = asks (spelled bytes) (trail log q) }) (part_of log q) (asked_greeted (spelled bytes) (trail log q) (all q)) (all q)
 
 closed_greeted : (log : Log) (p : PeerNo) → AreGreeted log → AreGreeted (Closed p ∷ log)
-closed_greeted log p all = λ q. at_if (p.0 == q) (with_item (Lost Shutting) (part_of log q)) (part_of log q) (off_greeted (Lost Shutting ∷ trail log q) refl) (all q)
+closed_greeted log p all = λ q. at_if (p.0 == q) (with_item (Lost mark.Closed) (part_of log q)) (part_of log q) (off_greeted (Lost mark.Closed ∷ trail log q) refl) (all q)
 
 took_greeted : (log : Log) (d : Delivery) → AreGreeted log → AreGreeted (Took d ∷ log)
 took_greeted log (Got p piece) all = λ q.
     let says = heard_says piece (part_of log q) in
     at_if (p.0 == q) (heard_part piece (part_of log q)) (part_of log q) (λ on. says.greets ∙ all q (sym says.on ∙ on)) (all q)
-took_greeted log (Gone p) all = λ q. at_if (p.0 == q) (with_item (Lost Went) (part_of log q)) (part_of log q) (off_greeted (Lost Went ∷ trail log q) refl) (all q)
+took_greeted log (Gone p) all = λ q. at_if (p.0 == q) (with_item (Lost mark.Gone) (part_of log q)) (part_of log q) (off_greeted (Lost mark.Gone ∷ trail log q) refl) (all q)
 took_greeted log (Tick seconds) all = all
 took_greeted log Ended all = all
 

@@ -10,8 +10,9 @@ use Rattle.cf_headers.specs.Chain.{Hash, IsIn}
 use Rattle.cf_peer.specs.declared.act.Act.{Act}
 use Rattle.cf_peer.specs.declared.peer.Cause.TheVariants.{Omits}
 use Rattle.cf_peer.specs.Asking.{claims, counted, fetched, hash_claimed}
-use Rattle.cf_peer.specs.Trail.{Part, Trail, Lost as LostItem, Shutting as IsShutting, connected, part_of, with_item}
+use Rattle.cf_peer.specs.Trail.{Part, Trail, Lost as LostItem, connected, part_of, with_item}
 use Rattle.cf_wires.specs.declared.event.Event.TheVariants.{Closed}
+use Rattle.cf_wires.specs.declared.event.Mark.TheVariants as mark
 use Rattle.cf_wires.specs.Log.{Log, tally_of}
 use Rattle.cf_sync.specs.Blame.{HasOmitted}
 use Rattle.cf_sync.specs.Fetching.{IsOmitting, Rule}
@@ -246,7 +247,7 @@ guilty_on c log q other g =
 -- all of them are closed, one after another
 pub record AreShut (rule : Rule) (qs : List ℕ) (log : Log) : Type 0 where
   pub allowed : Allowed rule (map shut_act qs) log
-  pub here : (q : ℕ) → IsIn q qs → part_of (after (map shut_act qs) log) q ≡ with_item (LostItem IsShutting)
+  pub here : (q : ℕ) → IsIn q qs → part_of (after (map shut_act qs) log) q ≡ with_item (LostItem mark.Closed)
       (part_of log q)
   pub others : (q : ℕ) → (IsIn q qs → ⊥) → part_of (after (map shut_act qs) log) q ≡ part_of log q
   pub dials : (tally_of (after (map shut_act qs) log)).dials ≡ (tally_of log).dials
@@ -274,9 +275,9 @@ are_shut rule (n ∷ qs) log rising guilty =
       allowed = ((first.number, inr (refl, first.omits), first.replied, λ right omits. refl), more.allowed);
       here = λ q i. elim i [
         | inl this ↦ more.others q (λ j. (let lt = above q j in absurd (omega (arith, lt, this))))
-            ∙ subst (λ (k : ℕ). part_of (Closed c ∷ log) k ≡ with_item (LostItem IsShutting) (part_of log k))
+            ∙ subst (λ (k : ℕ). part_of (Closed c ∷ log) k ≡ with_item (LostItem mark.Closed) (part_of log k))
             (sym this) (closed_here c (part_of log n))
-        | inr later ↦ more.here q later ∙ ap (with_item (LostItem IsShutting))
+        | inr later ↦ more.here q later ∙ ap (with_item (LostItem mark.Closed))
             (closed_others c q (part_of log q) (λ same. (let lt = above q later in absurd (omega (arith, lt, same)))))
       ];
       others = λ q out. more.others q (λ j. out (inr j)) ∙ closed_others c q (part_of log q) (λ same. out (inl same));
@@ -300,5 +301,5 @@ unomitted_shuts (n ∷ qs) log q out is =
     ]
 
 -- how one that was connected is lost then
-pub shut_lost : (t : Trail) → connected t ≡ true → IsLost (ClosedFor Omits) (LostItem IsShutting ∷ t)
+pub shut_lost : (t : Trail) → connected t ≡ true → IsLost (ClosedFor Omits) (LostItem mark.Closed ∷ t)
 shut_lost t on = record { off = refl; by = inr (off_unfailed t on, inl (on, inl refl)) }

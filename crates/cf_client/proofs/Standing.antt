@@ -14,6 +14,7 @@ use Rattle.cf_peer.specs.declared.act.Act.{Act}
 use Rattle.cf_peer.specs.declared.act.Act.TheVariants.{Send, Close}
 use Rattle.cf_wires.specs.declared.event.Event.{Event}
 use Rattle.cf_wires.specs.declared.event.Event.TheVariants.{Dialled, NotDialled, Sent, SendFailed, Closed, Took}
+use Rattle.cf_wires.specs.declared.event.Mark.TheVariants as mark
 use Rattle.cf_peer.specs.declared.mode.Mode.{Mode}
 use Rattle.cf_peer.specs.declared.mode.Mode.TheVariants.{Following}
 use Rattle.cf_peer.specs.declared.peer.Cause.{Cause}
@@ -21,7 +22,7 @@ use Rattle.cf_peer.specs.declared.peer.Cause.TheVariants.{Omits, Overdue}
 use Rattle.cf_peer.specs.declared.peer.Peer.{Peer}
 use Rattle.cf_peer.specs.Acts.{bytes_of, IsSendable}
 use Rattle.cf_wires.specs.Log.{Log, tally_of, noted}
-use Rattle.cf_peer.specs.Trail.{replies_owed, Trail, Part, Called, Asked, Lost as LostItem, Went, Shutting, part_of, trail, went_on, asks, spelled, with_item, called_part, connected, own, replied, as_reply, is_version, IsClientVersion}
+use Rattle.cf_peer.specs.Trail.{replies_owed, Trail, Part, Called, Asked, Lost as LostItem, part_of, trail, went_on, asks, spelled, with_item, called_part, connected, own, replied, as_reply, is_version, IsClientVersion}
 use Rattle.cf_peer.specs.Asking.{counted, age, is_open, MayAskIn, IsFree}
 use Rattle.cf_peer.specs.Peer.{Holds, heard_out, wants, is_idle_peer, called_peer, asked_for_headers}
 use Rattle.cf_sync.specs.Blame.{HasOmitted}
@@ -38,7 +39,7 @@ use Rattle.cf_place.specs.declared.place.Loss.TheVariants.{NotDialled as NeverCa
 use Rattle.cf_place.specs.Places.{Keeps, Fits, nobody, PlacesStand, entry_of, after, MayAct, Allowed, Goes, is_calm, is_busy, is_here, state_of, IsGreeting, IsQuestion, AsksAbove}
 use Rattle.cf_place.specs.Standing.{IsGreetedBy, IsAnswered, IsReplied, IsLost, IsNamed, IsState}
 use Rattle.cf_client.proofs.Spelled.{spelled_bytes}
-use Rattle.cf_client.proofs.Losing.{lost_never, lost_went, shut_now}
+use Rattle.cf_client.proofs.Losing.{lost_again, lost_never, shut_now}
 
 pub after-append : (acts : List Act) (a : Act) (log : Log) → after (acts ++ a ∷ []) log ≡ entry_of a ∷ after acts log
 after-append [] a log = refl
@@ -162,7 +163,7 @@ sent_others p bytes q part ne = grind (arith, common_steps)
 pub closed_others : (p : PeerNo) (q : ℕ) (part : Part) → q ≢ p.0 → went_on (Closed p) q part ≡ part
 closed_others p q part ne = grind (arith, common_steps)
 
-pub closed_here : (p : PeerNo) (part : Part) → went_on (Closed p) p.0 part ≡ with_item (LostItem Shutting) part
+pub closed_here : (p : PeerNo) (part : Part) → went_on (Closed p) p.0 part ≡ with_item (LostItem mark.Closed) part
 closed_here p part = grind (arith, common_steps)
 
 pub sent_here : (p : PeerNo) (m : Msg) (part : Part) → IsSendable m → went_on (Sent p (bytes_of m)) p.0 part ≡ with_item (Asked m) part
@@ -427,7 +428,7 @@ called_goes {rule = rule} places log p name m last stand greeting =
       );
     }
 
-missed_here : (p : PeerNo) (name : List ℕ) (part : Part) → went_on (NotDialled p name) p.0 part ≡ with_item (LostItem Went) part
+missed_here : (p : PeerNo) (name : List ℕ) (part : Part) → went_on (NotDialled p name) p.0 part ≡ with_item (LostItem mark.NotDialled) part
 missed_here p name part = grind (arith, common_steps)
 
 pub refused_stand : (places : List Place) (log : Log) (p : PeerNo) (name : List ℕ) → p.0 ≡ length places → PlacesStand places log
@@ -436,7 +437,7 @@ refused_stand places log p name last stand =
     let past : get_or places p.0 nobody ≡ nobody = grind (arith, common_steps) in
     let before : IsLost NeverCalled (trail log p.0) = subst (λ (x : Place). Fits x (part_of log p.0)) past (stand.each p.0) in
     stand_push places log p.0 (Lost NeverCalled) (NotDialled p name) last stand (λ q other. grind (arith, common_steps)) refl
-    (subst (λ (x : Part). IsLost NeverCalled x.trail) (sym (missed_here p name (part_of log p.0))) (lost_went NeverCalled (trail log p.0) before))
+    (subst (λ (x : Part). IsLost NeverCalled x.trail) (sym (missed_here p name (part_of log p.0))) (lost_again NeverCalled mark.NotDialled (trail log p.0) refl before))
     (λ same. cc) (λ q omitted. omitted) (λ q omitted. omitted)
 
 -- beyond the places nobody is connected

@@ -19,12 +19,13 @@ use Rattle.cf_peer.specs.declared.act.Act.TheVariants.{Send, Close}
 use Rattle.cf_peer.specs.declared.mode.Mode.{Mode}
 use Rattle.cf_wires.specs.declared.event.Delivery.TheVariants.{Got, Gone, Tick, Ended}
 use Rattle.cf_wires.specs.declared.event.Event.TheVariants.{Sent, Closed, Took}
+use Rattle.cf_wires.specs.declared.event.Mark.TheVariants as mark
 use Rattle.cf_peer.specs.declared.peer.Cause.{Cause}
 use Rattle.cf_peer.specs.declared.peer.Cause.TheVariants.{SendFailed, Omits}
 use Rattle.cf_peer.specs.declared.peer.Peer.{Peer}
 use Rattle.cf_peer.specs.Acts.{bytes_of, IsSendable, IsDoable}
 use Rattle.cf_wires.specs.Log.{Log, tally_of}
-use Rattle.cf_peer.specs.Trail.{Trail, Part, Asked, Lost as LostItem, Went, item_of, item_of_read, hears, hears_fault, heard_part, part_of, trail, went_on, with_item, connected, failed, greeted, has_version, own, is_heard_out, replies_owed, replied, as_reply, is_version}
+use Rattle.cf_peer.specs.Trail.{Trail, Part, Asked, Lost as LostItem, item_of, item_of_read, hears, hears_fault, heard_part, part_of, trail, went_on, with_item, connected, failed, greeted, has_version, own, is_heard_out, replies_owed, replied, as_reply, is_version}
 use Rattle.cf_peer.specs.Asking.{claims, request, verdict, counted, IsNextReply}
 use Rattle.cf_peer.specs.Peer.{Holds, calm}
 use Rattle.cf_peer.specs.Hearing.{IsReply}
@@ -51,7 +52,7 @@ use Rattle.cf_place.specs.Standing.{IsGreetedBy, IsAnswered, IsLost, IsNamed}
 use Rattle.cf_client.specs.Order.{AreTold}
 use Rattle.cf_client.specs.Steps.{Desk, Stands, IsInOrder, Taking, CutOff, Same, Moves}
 use Rattle.cf_client.proofs.Standing.{greeted_more, after-append, allowed-append, set_is, stand_at, stand_same, here_on, goes_start, sent_others, sent_here, closed_others, closed_here, number_within, named_set, omitted_acts, omitted_set, right_before, unomitted_close}
-use Rattle.cf_client.proofs.Losing.{lost_said, lost_refused, lost_went, goes_now, shut_now, cut_now}
+use Rattle.cf_client.proofs.Losing.{lost_again, lost_said, lost_refused, goes_now, shut_now, cut_now}
 use Rattle.cf_client.proofs.Naming.{claimed_by, omitting_told}
 use Rattle.cf_client.proofs.Settled.{set_other}
 use Rattle.cf_client.proofs.Ordering.{told_replies, told_fault}
@@ -572,7 +573,7 @@ fault_told mode d p piece old cause now acts log none here is_heard_out stood =
     told_fault p cause fault.replies acts fault.are.each fault.acts
 
 -- a peer has gone: one that is connected, or another
-gone_here : (p : PeerNo) (part : Part) → went_on (Took (Gone p)) p.0 part ≡ with_item (LostItem Went) part
+gone_here : (p : PeerNo) (part : Part) → went_on (Took (Gone p)) p.0 part ≡ with_item (LostItem mark.Gone) part
 gone_here p part = grind (arith, common_steps)
 
 gone_others : (p : PeerNo) (q : ℕ) (part : Part) → q ≢ p.0 → went_on (Took (Gone p)) q part ≡ part
@@ -585,7 +586,7 @@ gone_fits (Here peer) p q part away fits = elim (cases_eq q p.0) [
 ]
 gone_fits (Lost end) p q part away lost = elim (cases_eq q p.0) [
   | inl same ↦ subst (λ (k : ℕ). IsLost end (went_on (Took (Gone p)) k part).trail) (sym same)
-      (subst (λ (x : Part). IsLost end x.trail) (sym (gone_here p part)) (lost_went end part.trail lost))
+      (subst (λ (x : Part). IsLost end x.trail) (sym (gone_here p part)) (lost_again end mark.Gone part.trail refl lost))
   | inr other ↦ subst (λ (x : Part). IsLost end x.trail) (sym (gone_others p q part other)) lost
 ]
 

@@ -15,8 +15,9 @@ use Rattle.cf_msg.specs.declared.msg.Msg.TheVariants.{Ping, Pong, GetHeaders, He
 use Rattle.cf_msg.specs.Reading.{message_of}
 use Rattle.cf_wires.specs.declared.event.Delivery.TheVariants.{Got, Gone, Tick, Ended}
 use Rattle.cf_wires.specs.declared.event.Event.TheVariants.{Dialled, NotDialled, Sent, SendFailed, Closed, Took}
+use Rattle.cf_wires.specs.declared.event.Mark.TheVariants as mark
 use Rattle.cf_wires.specs.Log.{Log}
-use Rattle.cf_peer.specs.Trail.{Trail, Part, Asked, Lost, Went, Failing, Shutting, called_part, with_item, item_of, item_of_read, hears, hears_fault, part_after, heard_part, spelled, asks, part_of, trail, own}
+use Rattle.cf_peer.specs.Trail.{Trail, Part, Asked, Lost, called_part, with_item, item_of, item_of_read, hears, hears_fault, part_after, heard_part, spelled, asks, part_of, trail, own}
 use Rattle.cf_peer.specs.Asking.{OpenRequest, NothingOpen, HeadersOpen, ClaimsOpen, FiltersOpen, BlockOpen, PingOpen, block_asked, blocks_from, claims_asked, filters_asked, request, request_after, filters_left, filter_of, is_answer_of, is_wanted, MayAsk}
 use Rattle.cf_sync.specs.Fetching.{Rightly}
 use Rattle.cf_sync.proofs.Entries.{at_either}
@@ -126,17 +127,17 @@ IsFilledPart part = IsFilled (request part.trail)
 pub filled : (log : Log) (p : ℕ) → Rightly log → IsFilled (request (trail log p))
 filled [] p right = tt
 filled (Dialled q name ∷ log) p right = at_either IsFilledPart (q.0 == p) (called_part (part_of log p)) (part_of log p) (λ is. tt) (λ off. filled log p right)
-filled (NotDialled q name ∷ log) p right = at_either IsFilledPart (q.0 == p) (with_item (Lost Went) (part_of log p)) (part_of log p) (λ is. filled log p right) (λ off. filled log p right)
+filled (NotDialled q name ∷ log) p right = at_either IsFilledPart (q.0 == p) (with_item (Lost mark.NotDialled) (part_of log p)) (part_of log p) (λ is. filled log p right) (λ off. filled log p right)
 filled (Sent q bytes ∷ log) p right =
     let before = filled log p right.1 in
     at_either IsFilledPart (q.0 == p) (record (part_of log p) { trail = asks (spelled bytes) (trail log p) }) (part_of log p)
     (λ is. subst (λ (o : Option Msg). IsFilled (request (asks o (trail log p)))) (sym right.0.1)
     (for_filled (trail log p) right.0.0 (subst (λ (k : ℕ). MayAsk (trail log k) right.0.0) (eqb-true q.0 p is) right.0.2.of_its_part) before)) (λ off. before)
-filled (SendFailed q ∷ log) p right = at_either IsFilledPart (q.0 == p) (with_item (Lost Failing) (part_of log p)) (part_of log p) (λ is. filled log p right) (λ off. filled log p right)
-filled (Closed q ∷ log) p right = at_either IsFilledPart (q.0 == p) (with_item (Lost Shutting) (part_of log p)) (part_of log p) (λ is. filled log p right.1) (λ off. filled log p right.1)
+filled (SendFailed q ∷ log) p right = at_either IsFilledPart (q.0 == p) (with_item (Lost mark.SendFailed) (part_of log p)) (part_of log p) (λ is. filled log p right) (λ off. filled log p right)
+filled (Closed q ∷ log) p right = at_either IsFilledPart (q.0 == p) (with_item (Lost mark.Closed) (part_of log p)) (part_of log p) (λ is. filled log p right.1) (λ off. filled log p right.1)
 filled (Took (Got q piece) ∷ log) p right =
     let before = filled log p right.1 in
     at_either IsFilledPart (q.0 == p) (heard_part piece (part_of log p)) (part_of log p) (λ is. read_filled (read_stream ((part_of log p).waits ++ piece)) (trail log p) before) (λ off. before)
-filled (Took (Gone q) ∷ log) p right = at_either IsFilledPart (q.0 == p) (with_item (Lost Went) (part_of log p)) (part_of log p) (λ is. filled log p right.1) (λ off. filled log p right.1)
+filled (Took (Gone q) ∷ log) p right = at_either IsFilledPart (q.0 == p) (with_item (Lost mark.Gone) (part_of log p)) (part_of log p) (λ is. filled log p right.1) (λ off. filled log p right.1)
 filled (Took (Tick s) ∷ log) p right = filled log p right.1
 filled (Took Ended ∷ log) p right = filled log p right.1

@@ -14,8 +14,10 @@ use Rattle.cf_msg.specs.declared.msg.Msg.TheVariants.{Version, Verack, Pong, Get
 use Rattle.cf_msg.specs.Reading.{message_of}
 use Rattle.cf_wires.specs.declared.event.Delivery.TheVariants.{Got, Gone, Tick, Ended}
 use Rattle.cf_wires.specs.declared.event.Event.TheVariants.{Dialled, NotDialled, Sent, SendFailed, Closed, Took}
+use Rattle.cf_wires.specs.declared.event.Mark.{Mark}
+use Rattle.cf_wires.specs.declared.event.Mark.TheVariants as mark
 use Rattle.cf_wires.specs.Log.{Log, tally_of}
-use Rattle.cf_peer.specs.Trail.{Why, Trail, Part, Lost, Went, Failing, Shutting, called_part, with_item, item_of, item_of_read, hears, hears_fault, part_after, heard_part, spelled, asks, part_of, trail, connected}
+use Rattle.cf_peer.specs.Trail.{Trail, Part, Lost, called_part, with_item, item_of, item_of_read, hears, hears_fault, part_after, heard_part, spelled, asks, part_of, trail, connected}
 use Rattle.cf_peer.specs.Asking.{MayAsk}
 use Rattle.cf_sync.specs.Fetching.{Rightly}
 use Rattle.cf_sync.specs.Honesty.{asked, messages_said, IsSpelled}
@@ -103,8 +105,8 @@ ask_step : (part : Part) (bytes : List ℕ) (told : List Msg) (o : Option Msg) �
 ask_step part bytes told None a = subst (λ ms. Agrees part bytes ms) (sym (append-nil told)) a
 ask_step part bytes told (Some m) a = record { waits = a.waits; says = a.says; asks_these = ap (λ ms. ms ++ m ∷ []) a.asks_these; spells = a.spells }
 
-lost_step : (part : Part) (bytes : List ℕ) (told : List Msg) (why : Why) → Agrees part bytes told → Agrees (with_item (Lost why) part) bytes told
-lost_step part bytes told why a = record { waits = a.waits; says = a.says; asks_these = a.asks_these; spells = a.spells }
+lost_step : (part : Part) (bytes : List ℕ) (told : List Msg) (m : Mark) → Agrees part bytes told → Agrees (with_item (Lost m) part) bytes told
+lost_step part bytes told m a = record { waits = a.waits; says = a.says; asks_these = a.asks_these; spells = a.spells }
 
 called_step : (part : Part) → Agrees (called_part part) [] []
 called_step part = record {
@@ -161,7 +163,7 @@ away (Dialled q name ∷ log) p right numbered lt =
     }
 away (NotDialled q name ∷ log) p right numbered lt =
     let before = away log p right numbered.1 (omega (arith, lt)) in
-    record { off = at_either IsOff (q.0 == p) (with_item (Lost Went) (part_of log p)) (part_of log p) (λ is. refl) (λ off. before.off); none = before.none }
+    record { off = at_either IsOff (q.0 == p) (with_item (Lost mark.NotDialled) (part_of log p)) (part_of log p) (λ is. refl) (λ off. before.off); none = before.none }
 away (Sent q bytes ∷ log) p right numbered lt =
     let before = away log p right.1 numbered lt in
     let other : q.0 == p ≡ false = elim (cases_Bool (q.0 == p)) [
@@ -174,16 +176,16 @@ away (Sent q bytes ∷ log) p right numbered lt =
     }
 away (SendFailed q ∷ log) p right numbered lt =
     let before = away log p right numbered lt in
-    record { off = at_either IsOff (q.0 == p) (with_item (Lost Failing) (part_of log p)) (part_of log p) (λ is. refl) (λ off. before.off); none = before.none }
+    record { off = at_either IsOff (q.0 == p) (with_item (Lost mark.SendFailed) (part_of log p)) (part_of log p) (λ is. refl) (λ off. before.off); none = before.none }
 away (Closed q ∷ log) p right numbered lt =
     let before = away log p right.1 numbered lt in
-    record { off = at_either IsOff (q.0 == p) (with_item (Lost Shutting) (part_of log p)) (part_of log p) (λ is. refl) (λ off. before.off); none = before.none }
+    record { off = at_either IsOff (q.0 == p) (with_item (Lost mark.Closed) (part_of log p)) (part_of log p) (λ is. refl) (λ off. before.off); none = before.none }
 away (Took (Got q piece) ∷ log) p right numbered lt =
     let before = away log p right.1 numbered lt in
     record { off = at_either IsOff (q.0 == p) (heard_part piece (part_of log p)) (part_of log p) (λ is. off_read (read_stream ((part_of log p).waits ++ piece)) (trail log p) ∙ before.off) (λ off. before.off); none = before.none }
 away (Took (Gone q) ∷ log) p right numbered lt =
     let before = away log p right.1 numbered lt in
-    record { off = at_either IsOff (q.0 == p) (with_item (Lost Went) (part_of log p)) (part_of log p) (λ is. refl) (λ off. before.off); none = before.none }
+    record { off = at_either IsOff (q.0 == p) (with_item (Lost mark.Gone) (part_of log p)) (part_of log p) (λ is. refl) (λ off. before.off); none = before.none }
 away (Took (Tick s) ∷ log) p right numbered lt = let before = away log p right.1 numbered lt in record { off = before.off; none = before.none }
 away (Took Ended ∷ log) p right numbered lt = let before = away log p right.1 numbered lt in record { off = before.off; none = before.none }
 
@@ -232,17 +234,17 @@ agrees (Dialled q name ∷ log) p right numbered fine =
     (λ off. before)
 agrees (NotDialled q name ∷ log) p right numbered fine =
     let before = agrees log p right numbered.1 (λ k. fine (suc k)) in
-    at_either (AgreesWith (came log p) (told_to log p)) (q.0 == p) (with_item (Lost Went) (part_of log p)) (part_of log p) (λ is. lost_step (part_of log p) (came log p) (told_to log p) Went before) (λ off. before)
+    at_either (AgreesWith (came log p) (told_to log p)) (q.0 == p) (with_item (Lost mark.NotDialled) (part_of log p)) (part_of log p) (λ is. lost_step (part_of log p) (came log p) (told_to log p) mark.NotDialled before) (λ off. before)
 agrees (Sent q bytes ∷ log) p right numbered fine =
     let before = agrees log p right.1 numbered (λ k. fine (suc k)) in
     sent_either (q.0 == p) (record (part_of log p) { trail = asks (spelled bytes) (trail log p) }) (part_of log p) (came log p) (told_to log p ++ option_to_list (spelled bytes)) (told_to log p)
     (ask_step (part_of log p) (came log p) (told_to log p) (spelled bytes) before) before
 agrees (SendFailed q ∷ log) p right numbered fine =
     let before = agrees log p right numbered (λ k. fine (suc k)) in
-    at_either (AgreesWith (came log p) (told_to log p)) (q.0 == p) (with_item (Lost Failing) (part_of log p)) (part_of log p) (λ is. lost_step (part_of log p) (came log p) (told_to log p) Failing before) (λ off. before)
+    at_either (AgreesWith (came log p) (told_to log p)) (q.0 == p) (with_item (Lost mark.SendFailed) (part_of log p)) (part_of log p) (λ is. lost_step (part_of log p) (came log p) (told_to log p) mark.SendFailed before) (λ off. before)
 agrees (Closed q ∷ log) p right numbered fine =
     let before = agrees log p right.1 numbered (λ k. fine (suc k)) in
-    at_either (AgreesWith (came log p) (told_to log p)) (q.0 == p) (with_item (Lost Shutting) (part_of log p)) (part_of log p) (λ is. lost_step (part_of log p) (came log p) (told_to log p) Shutting before) (λ off. before)
+    at_either (AgreesWith (came log p) (told_to log p)) (q.0 == p) (with_item (Lost mark.Closed) (part_of log p)) (part_of log p) (λ is. lost_step (part_of log p) (came log p) (told_to log p) mark.Closed before) (λ off. before)
 agrees (Took (Got q piece) ∷ log) p right numbered fine =
     let before = agrees log p right.1 numbered (λ k. fine (suc k)) in
     elim (cases_Bool (q.0 == p)) [
@@ -254,7 +256,7 @@ agrees (Took (Got q piece) ∷ log) p right numbered fine =
     ]
 agrees (Took (Gone q) ∷ log) p right numbered fine =
     let before = agrees log p right.1 numbered (λ k. fine (suc k)) in
-    at_either (AgreesWith (came log p) (told_to log p)) (q.0 == p) (with_item (Lost Went) (part_of log p)) (part_of log p) (λ is. lost_step (part_of log p) (came log p) (told_to log p) Went before) (λ off. before)
+    at_either (AgreesWith (came log p) (told_to log p)) (q.0 == p) (with_item (Lost mark.Gone) (part_of log p)) (part_of log p) (λ is. lost_step (part_of log p) (came log p) (told_to log p) mark.Gone before) (λ off. before)
 agrees (Took (Tick s) ∷ log) p right numbered fine =
     let before = agrees log p right.1 numbered (λ k. fine (suc k)) in
     record { waits = before.waits; says = before.says; asks_these = before.asks_these; spells = before.spells }

@@ -13,6 +13,7 @@ use Rattle.cf_msg.specs.declared.msg.Msg.{Msg}
 use Rattle.cf_wires.specs.declared.event.Delivery.TheVariants.{Got, Gone, Tick, Ended}
 use Rattle.cf_wires.specs.declared.event.Event.{Event}
 use Rattle.cf_wires.specs.declared.event.Event.TheVariants.{Dialled, NotDialled, Sent, SendFailed, Closed, Took}
+use Rattle.cf_wires.specs.declared.event.Mark.TheVariants as mark
 use Rattle.cf_wires.specs.Log.{Log, tally_of}
 use Rattle.cf_frame.specs.declared.frame.Frame.{Frame}
 use Rattle.cf_frame.specs.declared.frame.FrameFault.{FrameFault}
@@ -20,7 +21,7 @@ use Rattle.cf_frame.specs.Stream.{StreamRead, read_stream}
 use Rattle.cf_msg.specs.declared.msg.Malformed.{Malformed}
 use Rattle.cf_msg.specs.Reading.{message_of}
 use Rattle.cf_match.specs.declared.job.Job.{Job}
-use Rattle.cf_peer.specs.Trail.{Trail, Part, Lost, Shutting, trail, part_of, called_part, with_item, item_of, item_of_read, hears, hears_fault, part_after, heard_part, asks, spelled, connected, greeted, has_version, ready}
+use Rattle.cf_peer.specs.Trail.{Trail, Part, Lost, trail, part_of, called_part, with_item, item_of, item_of_read, hears, hears_fault, part_after, heard_part, asks, spelled, connected, greeted, has_version, ready}
 use Rattle.cf_peer.specs.Asking.{OpenRequest, NothingOpen, HeadersOpen, ClaimsOpen, FiltersOpen, BlockOpen, PingOpen, claims, request, is_idle, is_open, HasSaid}
 use Rattle.cf_server.specs.Serving.{text_of}
 use Rattle.cf_server.proofs.Texts.{text-nil}
@@ -321,7 +322,7 @@ called (Sent q bytes ∷ log) p numbered stays some few =
 called (SendFailed q ∷ log) p numbered stays some few = absurd (false≢true stays)
 called (Closed q ∷ log) p numbered stays some few =
     let before = called log p numbered stays some few in
-    at_either IsCalled (q.0 == p) (with_item (Lost Shutting) (part_of log p)) (part_of log p) (λ is. before) (λ off. before)
+    at_either IsCalled (q.0 == p) (with_item (Lost mark.Closed) (part_of log p)) (part_of log p) (λ is. before) (λ off. before)
 called (Took (Got q piece) ∷ log) p numbered stays some few =
     let before = called log p numbered stays some few in
     at_either IsCalled (q.0 == p) (heard_part piece (part_of log p)) (part_of log p) (λ is. called_read (read_stream ((part_of log p).waits ++ piece)) (trail log p) ∙ before) (λ off. before)

@@ -25,8 +25,9 @@ use Rattle.cf_msg.specs.declared.msg.Msg.TheVariants.{Version, Ping, GetHeaders,
 use Rattle.cf_msg.specs.Reading.{message_of}
 use Rattle.cf_wires.specs.declared.event.Delivery.TheVariants.{Got, Gone, Tick, Ended}
 use Rattle.cf_wires.specs.declared.event.Event.TheVariants.{Dialled, NotDialled, Sent, SendFailed, Closed, Took}
+use Rattle.cf_wires.specs.declared.event.Mark.TheVariants as mark
 use Rattle.cf_wires.specs.Log.{Log}
-use Rattle.cf_peer.specs.Trail.{Trail, Part, Lost, Went, Failing, Shutting, called_part, with_item, item_of, item_of_read, hears, hears_fault, part_after, heard_part, spelled, asks, part_of, trail, own}
+use Rattle.cf_peer.specs.Trail.{Trail, Part, Lost, called_part, with_item, item_of, item_of_read, hears, hears_fault, part_after, heard_part, spelled, asks, part_of, trail, own}
 use Rattle.cf_peer.specs.Asking.{lists, HasSaid, MayAsk}
 use Rattle.cf_played.specs.declared.kind.Way.{Way}
 use Rattle.cf_played.specs.declared.kind.Way.TheVariants.{Honest, Omits, Silent}
@@ -106,16 +107,16 @@ told_all P (Dialled q name ∷ log) p all =
     at_either (Tells P) (q.0 == p) (called_part (part_of log p)) (part_of log p) (λ is m h. before m h) (λ off. before)
 told_all P (NotDialled q name ∷ log) p all =
     let before = told_all P log p (λ k. all (suc k)) in
-    at_either (Tells P) (q.0 == p) (with_item (Lost Went) (part_of log p)) (part_of log p) (λ is m h. before m h) (λ off. before)
+    at_either (Tells P) (q.0 == p) (with_item (Lost mark.NotDialled) (part_of log p)) (part_of log p) (λ is m h. before m h) (λ off. before)
 told_all P (Sent q bytes ∷ log) p all =
     let before = told_all P log p (λ k. all (suc k)) in
     at_either (Tells P) (q.0 == p) (record (part_of log p) { trail = asks (spelled bytes) (trail log p) }) (part_of log p) (λ is m h. before m (asks_told (spelled bytes) (trail log p) m h)) (λ off. before)
 told_all P (SendFailed q ∷ log) p all =
     let before = told_all P log p (λ k. all (suc k)) in
-    at_either (Tells P) (q.0 == p) (with_item (Lost Failing) (part_of log p)) (part_of log p) (λ is m h. before m h) (λ off. before)
+    at_either (Tells P) (q.0 == p) (with_item (Lost mark.SendFailed) (part_of log p)) (part_of log p) (λ is m h. before m h) (λ off. before)
 told_all P (Closed q ∷ log) p all =
     let before = told_all P log p (λ k. all (suc k)) in
-    at_either (Tells P) (q.0 == p) (with_item (Lost Shutting) (part_of log p)) (part_of log p) (λ is m h. before m h) (λ off. before)
+    at_either (Tells P) (q.0 == p) (with_item (Lost mark.Closed) (part_of log p)) (part_of log p) (λ is m h. before m h) (λ off. before)
 told_all P (Took (Got q piece) ∷ log) p all =
     let before = told_all P log p (λ k. all (suc k)) in
     at_either (TellsWhere P) (q.0 == p) (heard_part piece (part_of log p)) (part_of log p)
@@ -123,7 +124,7 @@ told_all P (Took (Got q piece) ∷ log) p all =
     (all 0)
 told_all P (Took (Gone q) ∷ log) p all =
     let before = told_all P log p (λ k. all (suc k)) in
-    at_either (Tells P) (q.0 == p) (with_item (Lost Went) (part_of log p)) (part_of log p) (λ is m h. before m h) (λ off. before)
+    at_either (Tells P) (q.0 == p) (with_item (Lost mark.Gone) (part_of log p)) (part_of log p) (λ is m h. before m h) (λ off. before)
 told_all P (Took (Tick s) ∷ log) p all = λ m h. told_all P log p (λ k. all (suc k)) m h
 told_all P (Took Ended ∷ log) p all = told_all P log p (λ k. all (suc k))
 

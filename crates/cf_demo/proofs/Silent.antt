@@ -22,10 +22,11 @@ use Rattle.cf_msg.specs.Reading.{message_of}
 use Rattle.cf_wires.specs.declared.event.Delivery.TheVariants.{Got, Gone, Tick, Ended}
 use Rattle.cf_wires.specs.declared.event.Event.{Event}
 use Rattle.cf_wires.specs.declared.event.Event.TheVariants.{Dialled, NotDialled, Sent, SendFailed, Closed, Took}
+use Rattle.cf_wires.specs.declared.event.Mark.TheVariants as mark
 use Rattle.cf_peer.specs.declared.mode.Mode.TheVariants.{Once}
 use Rattle.cf_scan.specs.declared.history.Entry.{Entry as HistoryEntry}
 use Rattle.cf_wires.specs.Log.{Log, tally_of}
-use Rattle.cf_peer.specs.Trail.{Trail, Part, Asked, Lost, Went, Failing, Shutting, called_part, with_item, item_of, item_of_read, hears, hears_fault, part_after, heard_part, spelled, asks, part_of, trail, connected, ready, own, is_heard_out}
+use Rattle.cf_peer.specs.Trail.{Trail, Part, Asked, Lost, called_part, with_item, item_of, item_of_read, hears, hears_fault, part_after, heard_part, spelled, asks, part_of, trail, connected, ready, own, is_heard_out}
 use Rattle.cf_peer.specs.Asking.{HasHeader, OpenRequest, NothingOpen, HeadersOpen, ClaimsOpen, FiltersOpen, BlockOpen, claims_asked, filters_asked, block_asked, claims, claims_after, request, request_after, is_idle, is_open, hashes_of, MayAsk, PingOpen}
 use Rattle.cf_played.specs.declared.kind.Way.TheVariants.{Silent}
 use Rattle.cf_played.specs.Answers.{came, told_to, is_answered, HasBegun}
@@ -247,7 +248,7 @@ stuck (Dialled q name ∷ log) p right soft =
     at_either IsStuckPart (q.0 == p) (called_part (part_of log p)) (part_of log p) (λ is. record { opens = λ hard. absurd (false≢true hard); none = refl }) (λ off. before)
 stuck (NotDialled q name ∷ log) p right soft =
     let before = stuck log p right (λ k. soft (suc k)) in
-    at_either IsStuckPart (q.0 == p) (with_item (Lost Went) (part_of log p)) (part_of log p) (λ is. record { opens = before.opens; none = before.none }) (λ off. before)
+    at_either IsStuckPart (q.0 == p) (with_item (Lost mark.NotDialled) (part_of log p)) (part_of log p) (λ is. record { opens = before.opens; none = before.none }) (λ off. before)
 stuck (Sent q bytes ∷ log) p right soft =
     let before = stuck log p right.1 (λ k. soft (suc k)) in
     at_either IsStuckPart (q.0 == p) (record (part_of log p) { trail = asks (spelled bytes) (trail log p) }) (part_of log p)
@@ -255,10 +256,10 @@ stuck (Sent q bytes ∷ log) p right soft =
     (asked_stuck (trail log p) right.0.0 (subst (λ (k : ℕ). MayAsk (trail log k) right.0.0) (eqb-true q.0 p is) right.0.2.of_its_part) before)) (λ off. before)
 stuck (SendFailed q ∷ log) p right soft =
     let before = stuck log p right (λ k. soft (suc k)) in
-    at_either IsStuckPart (q.0 == p) (with_item (Lost Failing) (part_of log p)) (part_of log p) (λ is. record { opens = before.opens; none = before.none }) (λ off. before)
+    at_either IsStuckPart (q.0 == p) (with_item (Lost mark.SendFailed) (part_of log p)) (part_of log p) (λ is. record { opens = before.opens; none = before.none }) (λ off. before)
 stuck (Closed q ∷ log) p right soft =
     let before = stuck log p right.1 (λ k. soft (suc k)) in
-    at_either IsStuckPart (q.0 == p) (with_item (Lost Shutting) (part_of log p)) (part_of log p) (λ is. record { opens = before.opens; none = before.none }) (λ off. before)
+    at_either IsStuckPart (q.0 == p) (with_item (Lost mark.Closed) (part_of log p)) (part_of log p) (λ is. record { opens = before.opens; none = before.none }) (λ off. before)
 stuck (Took (Got q piece) ∷ log) p right soft =
     let before = stuck log p right.1 (λ k. soft (suc k)) in
     at_either IsStuckWhereSoft (q.0 == p) (heard_part piece (part_of log p)) (part_of log p)
@@ -266,7 +267,7 @@ stuck (Took (Got q piece) ∷ log) p right soft =
     (soft 0)
 stuck (Took (Gone q) ∷ log) p right soft =
     let before = stuck log p right.1 (λ k. soft (suc k)) in
-    at_either IsStuckPart (q.0 == p) (with_item (Lost Went) (part_of log p)) (part_of log p) (λ is. record { opens = before.opens; none = before.none }) (λ off. before)
+    at_either IsStuckPart (q.0 == p) (with_item (Lost mark.Gone) (part_of log p)) (part_of log p) (λ is. record { opens = before.opens; none = before.none }) (λ off. before)
 stuck (Took (Tick s) ∷ log) p right soft = let before = stuck log p right.1 (λ k. soft (suc k)) in record { opens = before.opens; none = before.none }
 stuck (Took Ended ∷ log) p right soft = stuck log p right.1 (λ k. soft (suc k))
 

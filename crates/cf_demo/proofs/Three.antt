@@ -12,8 +12,9 @@ use Rattle.cf_headers.specs.Shown.{Shows}
 use Rattle.cf_msg.specs.declared.msg.Msg.{Msg}
 use Rattle.cf_wires.specs.declared.event.Delivery.TheVariants.{Got, Gone, Tick, Ended}
 use Rattle.cf_wires.specs.declared.event.Event.TheVariants.{Dialled, NotDialled, Sent, SendFailed, Closed, Took}
+use Rattle.cf_wires.specs.declared.event.Mark.TheVariants as mark
 use Rattle.cf_wires.specs.Log.{Log}
-use Rattle.cf_peer.specs.Trail.{Part, Lost, Went, Failing, Shutting, called_part, with_item, heard_part, spelled, asks, part_of, trail, connected, own}
+use Rattle.cf_peer.specs.Trail.{Part, Lost, called_part, with_item, heard_part, spelled, asks, part_of, trail, connected, own}
 use Rattle.cf_peer.specs.Asking.{lists, MayAsk}
 use Rattle.cf_played.specs.declared.kind.Way.TheVariants.{Honest, Omits}
 use Rattle.cf_played.specs.Answers.{told_to, AreAlike}
@@ -46,17 +47,17 @@ zero_off [] right numbered = refl
 zero_off (Dialled q name ∷ log) right numbered =
     at_either IsOff (q.0 == 0) (called_part (part_of log 0)) (part_of log 0)
     (λ is. (let here = eqb-true q.0 0 is in let n = numbered.0 in absurd (omega (arith, here, n)))) (λ off. zero_off log right numbered.1)
-zero_off (NotDialled q name ∷ log) right numbered = at_either IsOff (q.0 == 0) (with_item (Lost Went) (part_of log 0)) (part_of log 0) (λ is. refl) (λ off. zero_off log right numbered.1)
+zero_off (NotDialled q name ∷ log) right numbered = at_either IsOff (q.0 == 0) (with_item (Lost mark.NotDialled) (part_of log 0)) (part_of log 0) (λ is. refl) (λ off. zero_off log right numbered.1)
 zero_off (Sent q bytes ∷ log) right numbered =
     let before = zero_off log right.1 numbered in
     at_either IsOff (q.0 == 0) (record (part_of log 0) { trail = asks (spelled bytes) (trail log 0) }) (part_of log 0)
     (λ is. absurd (both_ways (connected (trail log 0)) before (asked_there (trail log 0) right.0.0 (subst (λ (k : ℕ). MayAsk (trail log k) right.0.0) (eqb-true q.0 0 is) right.0.2.of_its_part)))) (λ off. before)
-zero_off (SendFailed q ∷ log) right numbered = at_either IsOff (q.0 == 0) (with_item (Lost Failing) (part_of log 0)) (part_of log 0) (λ is. refl) (λ off. zero_off log right numbered)
-zero_off (Closed q ∷ log) right numbered = at_either IsOff (q.0 == 0) (with_item (Lost Shutting) (part_of log 0)) (part_of log 0) (λ is. refl) (λ off. zero_off log right.1 numbered)
+zero_off (SendFailed q ∷ log) right numbered = at_either IsOff (q.0 == 0) (with_item (Lost mark.SendFailed) (part_of log 0)) (part_of log 0) (λ is. refl) (λ off. zero_off log right numbered)
+zero_off (Closed q ∷ log) right numbered = at_either IsOff (q.0 == 0) (with_item (Lost mark.Closed) (part_of log 0)) (part_of log 0) (λ is. refl) (λ off. zero_off log right.1 numbered)
 zero_off (Took (Got q piece) ∷ log) right numbered =
     let before = zero_off log right.1 numbered in
     at_either IsOff (q.0 == 0) (heard_part piece (part_of log 0)) (part_of log 0) (λ is. off_read (read_stream ((part_of log 0).waits ++ piece)) (trail log 0) ∙ before) (λ off. before)
-zero_off (Took (Gone q) ∷ log) right numbered = at_either IsOff (q.0 == 0) (with_item (Lost Went) (part_of log 0)) (part_of log 0) (λ is. refl) (λ off. zero_off log right.1 numbered)
+zero_off (Took (Gone q) ∷ log) right numbered = at_either IsOff (q.0 == 0) (with_item (Lost mark.Gone) (part_of log 0)) (part_of log 0) (λ is. refl) (λ off. zero_off log right.1 numbered)
 zero_off (Took (Tick s) ∷ log) right numbered = zero_off log right.1 numbered
 zero_off (Took Ended ∷ log) right numbered = zero_off log right.1 numbered
 

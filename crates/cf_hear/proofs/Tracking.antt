@@ -15,8 +15,9 @@ use Rattle.cf_peer.specs.declared.peer.Cause.{Cause}
 use Rattle.cf_peer.specs.declared.peer.Peer.{Peer}
 use Rattle.cf_wires.specs.declared.event.Delivery.TheVariants.{Got, Gone, Tick, Ended}
 use Rattle.cf_wires.specs.declared.event.Event.TheVariants.{Dialled, NotDialled, Sent, Closed, Took}
+use Rattle.cf_wires.specs.declared.event.Mark.TheVariants as mark
 use Rattle.cf_wires.specs.Log.{Log}
-use Rattle.cf_peer.specs.Trail.{Trail, Part, Asked, Lost, Went, Shutting, part_of, trail, went_on, asks, spelled, with_item, called_part, heard_part, connected, own}
+use Rattle.cf_peer.specs.Trail.{Trail, Part, Asked, Lost, part_of, trail, went_on, asks, spelled, with_item, called_part, heard_part, connected, own}
 use Rattle.cf_peer.specs.Asking.{NothingOpen, claims, counted, request, fetched, given, SameUse}
 use Rattle.cf_sync.specs.Fetching.{IsConnected, IsFetched, blocks_open, filters_open}
 use Rattle.cf_holds.specs.Known.{HoldsFetched, HoldsClaims, HoldsGiven, HoldsOpens, OpensAt, claims_kept}
@@ -150,7 +151,7 @@ tracks_lost before after p log next put off others blocks filters trials tracks 
     (sym (ap (λ (b : Bool). if b then Some (own (trail next p.0)) else None) off)) (sym (ap (λ (b : Bool). if b then claims (counted (trail next p.0)) else no_claims) off))
     (λ on. absurd (both_ways (connected (trail next p.0)) off on)) others (brought_at log next p.0 others blocks filters) trials tracks
 
-closed_here : (p : PeerNo) (part : Part) → went_on (Closed p) p.0 part ≡ with_item (Lost Shutting) part
+closed_here : (p : PeerNo) (part : Part) → went_on (Closed p) p.0 part ≡ with_item (Lost mark.Closed) part
 closed_here p part = grind (arith, common_steps)
 
 closed_others : (p : PeerNo) (q : ℕ) (part : Part) → q ≢ p.0 → went_on (Closed p) q part ≡ part
@@ -162,7 +163,7 @@ tracks_closed before after p log put tracks =
     tracks_lost before after p log (Closed p ∷ log) put (ap (λ (x : Part). connected x.trail) here) (λ q other. closed_others p q (part_of log q) other)
     (ap (λ (x : Part). fetched (counted x.trail)) here) (same_gave log) (trials_stay (Closed p) log before.trials tt tt tracks.trials) tracks
 
-gone_here : (p : PeerNo) (part : Part) → went_on (Took (Gone p)) p.0 part ≡ with_item (Lost Went) part
+gone_here : (p : PeerNo) (part : Part) → went_on (Took (Gone p)) p.0 part ≡ with_item (Lost mark.Gone) part
 gone_here p part = grind (arith, common_steps)
 
 gone_others : (p : PeerNo) (q : ℕ) (part : Part) → q ≢ p.0 → went_on (Took (Gone p)) q part ≡ part
@@ -286,7 +287,7 @@ pub tracks_away : (s : Seen) (p : PeerNo) (log : Log) → connected (trail log p
 tracks_away s p log off tracks = tracks_gone s s p log (put_off s log p.0 off tracks) tracks
 
 -- it couldn't be dialled
-missed_here : (p : PeerNo) (name : List ℕ) (part : Part) → went_on (NotDialled p name) p.0 part ≡ with_item (Lost Went) part
+missed_here : (p : PeerNo) (name : List ℕ) (part : Part) → went_on (NotDialled p name) p.0 part ≡ with_item (Lost mark.NotDialled) part
 missed_here p name part = grind (arith, common_steps)
 
 missed_others : (p : PeerNo) (name : List ℕ) (q : ℕ) (part : Part) → q ≢ p.0 → went_on (NotDialled p name) q part ≡ part

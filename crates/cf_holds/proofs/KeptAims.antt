@@ -17,8 +17,9 @@ use Rattle.cf_msg.specs.declared.msg.Msg.TheVariants.{GetHeaders, Headers, GetDa
 use Rattle.cf_wires.specs.declared.event.Delivery.TheVariants.{Got, Gone, Tick, Ended}
 use Rattle.cf_wires.specs.declared.event.Event.{Event}
 use Rattle.cf_wires.specs.declared.event.Event.TheVariants.{Dialled, NotDialled, Sent, SendFailed, Closed, Took}
+use Rattle.cf_wires.specs.declared.event.Mark.TheVariants as mark
 use Rattle.cf_wires.specs.Log.{Log}
-use Rattle.cf_peer.specs.Trail.{Trail, Part, Said, Lost, Went, Failing, Shutting, called_part, with_item, part_after, heard_part, part_of, trail, went_on, asks, spelled, connected, own}
+use Rattle.cf_peer.specs.Trail.{Trail, Part, Said, Lost, called_part, with_item, part_after, heard_part, part_of, trail, went_on, asks, spelled, connected, own}
 use Rattle.cf_peer.specs.Asking.{OpenRequest, NothingOpen, HeadersOpen, ClaimsOpen, FiltersOpen, BlockOpen, PingOpen, block_asked, blocks_from, claims_asked, filter_of, filters_asked, is_answer_of, is_committed, is_wanted, request, request_after, counted, fetched, fetched_by, given, given_by}
 use Rattle.cf_filter.specs.Lacking.{output_items_of}
 use Rattle.cf_headers.specs.Rules.{same}
@@ -240,12 +241,12 @@ WasOn log q part = connected part.trail ≡ true → IsConnected log q ⊎ (filt
 was_on : (e : Event) (log : Log) (q : ℕ) → IsNoSend e → IsConnected (e ∷ log) q → IsConnected log q ⊎ (filters_open (request (counted_part (e ∷ log) q)) ≡ [])
 was_on (Sent p bytes) log q unsent on = absurd unsent
 was_on (Dialled p name) log q unsent on = at_either (WasOn log q) (p.0 == q) (called_part (part_of log q)) (part_of log q) (λ is on. inr refl) (λ off on. inl on) on
-was_on (NotDialled p name) log q unsent on = at_either (WasOn log q) (p.0 == q) (with_item (Lost Went) (part_of log q)) (part_of log q) (λ is on. absurd (false≢true on)) (λ off on. inl on) on
-was_on (SendFailed p) log q unsent on = at_either (WasOn log q) (p.0 == q) (with_item (Lost Failing) (part_of log q)) (part_of log q) (λ is on. absurd (false≢true on)) (λ off on. inl on) on
-was_on (Closed p) log q unsent on = at_either (WasOn log q) (p.0 == q) (with_item (Lost Shutting) (part_of log q)) (part_of log q) (λ is on. absurd (false≢true on)) (λ off on. inl on) on
+was_on (NotDialled p name) log q unsent on = at_either (WasOn log q) (p.0 == q) (with_item (Lost mark.NotDialled) (part_of log q)) (part_of log q) (λ is on. absurd (false≢true on)) (λ off on. inl on) on
+was_on (SendFailed p) log q unsent on = at_either (WasOn log q) (p.0 == q) (with_item (Lost mark.SendFailed) (part_of log q)) (part_of log q) (λ is on. absurd (false≢true on)) (λ off on. inl on) on
+was_on (Closed p) log q unsent on = at_either (WasOn log q) (p.0 == q) (with_item (Lost mark.Closed) (part_of log q)) (part_of log q) (λ is on. absurd (false≢true on)) (λ off on. inl on) on
 was_on (Took (Got p piece)) log q unsent on =
     at_either (WasOn log q) (p.0 == q) (heard_part piece (part_of log q)) (part_of log q) (λ is on. inl (sym (heard_on piece (part_of log q)) ∙ on)) (λ off on. inl on) on
-was_on (Took (Gone p)) log q unsent on = at_either (WasOn log q) (p.0 == q) (with_item (Lost Went) (part_of log q)) (part_of log q) (λ is on. absurd (false≢true on)) (λ off on. inl on) on
+was_on (Took (Gone p)) log q unsent on = at_either (WasOn log q) (p.0 == q) (with_item (Lost mark.Gone) (part_of log q)) (part_of log q) (λ is on. absurd (false≢true on)) (λ off on. inl on) on
 was_on (Took (Tick s)) log q unsent on = inl on
 was_on (Took Ended) log q unsent on = inl on
 
@@ -253,12 +254,12 @@ was_on (Took Ended) log q unsent on = inl on
 ends_at : (e : Event) (log : Log) (q : ℕ) → IsNoSend e → OnlyEnds (filters_open (request (counted_part (e ∷ log) q))) (filters_open (request (counted_part log q)))
 ends_at (Sent p bytes) log q unsent = absurd unsent
 ends_at (Dialled p name) log q unsent = at_either (Ends log q) (p.0 == q) (called_part (part_of log q)) (part_of log q) (λ is. inr refl) (λ off. inl refl)
-ends_at (NotDialled p name) log q unsent = at_either (Ends log q) (p.0 == q) (with_item (Lost Went) (part_of log q)) (part_of log q) (λ is. inl refl) (λ off. inl refl)
-ends_at (SendFailed p) log q unsent = at_either (Ends log q) (p.0 == q) (with_item (Lost Failing) (part_of log q)) (part_of log q) (λ is. inl refl) (λ off. inl refl)
-ends_at (Closed p) log q unsent = at_either (Ends log q) (p.0 == q) (with_item (Lost Shutting) (part_of log q)) (part_of log q) (λ is. inl refl) (λ off. inl refl)
+ends_at (NotDialled p name) log q unsent = at_either (Ends log q) (p.0 == q) (with_item (Lost mark.NotDialled) (part_of log q)) (part_of log q) (λ is. inl refl) (λ off. inl refl)
+ends_at (SendFailed p) log q unsent = at_either (Ends log q) (p.0 == q) (with_item (Lost mark.SendFailed) (part_of log q)) (part_of log q) (λ is. inl refl) (λ off. inl refl)
+ends_at (Closed p) log q unsent = at_either (Ends log q) (p.0 == q) (with_item (Lost mark.Closed) (part_of log q)) (part_of log q) (λ is. inl refl) (λ off. inl refl)
 ends_at (Took (Got p piece)) log q unsent =
     at_either (Ends log q) (p.0 == q) (heard_part piece (part_of log q)) (part_of log q) (λ is. piece_ends (read_stream ((part_of log q).waits ++ piece)) (trail log q)) (λ off. inl refl)
-ends_at (Took (Gone p)) log q unsent = at_either (Ends log q) (p.0 == q) (with_item (Lost Went) (part_of log q)) (part_of log q) (λ is. inl refl) (λ off. inl refl)
+ends_at (Took (Gone p)) log q unsent = at_either (Ends log q) (p.0 == q) (with_item (Lost mark.Gone) (part_of log q)) (part_of log q) (λ is. inl refl) (λ off. inl refl)
 ends_at (Took (Tick s)) log q unsent = inl refl
 ends_at (Took Ended) log q unsent = inl refl
 
@@ -543,12 +544,12 @@ sent_on p bytes log q on =
 -- who isn't cut off was connected before
 pub closed_on : (p : PeerNo) (log : Log) (q : ℕ) → IsConnected (Closed p ∷ log) q → IsConnected log q
 closed_on p log q on =
-    at_either (λ (x : Part). connected x.trail ≡ true → IsConnected log q) (p.0 == q) (with_item (Lost Shutting) (part_of log q)) (part_of log q)
+    at_either (λ (x : Part). connected x.trail ≡ true → IsConnected log q) (p.0 == q) (with_item (Lost mark.Closed) (part_of log q)) (part_of log q)
     (λ is on. absurd (false≢true on)) (λ off on. on) on
 
 pub failed_on : (p : PeerNo) (log : Log) (q : ℕ) → IsConnected (SendFailed p ∷ log) q → IsConnected log q
 failed_on p log q on =
-    at_either (λ (x : Part). connected x.trail ≡ true → IsConnected log q) (p.0 == q) (with_item (Lost Failing) (part_of log q)) (part_of log q)
+    at_either (λ (x : Part). connected x.trail ≡ true → IsConnected log q) (p.0 == q) (with_item (Lost mark.SendFailed) (part_of log q)) (part_of log q)
     (λ is on. absurd (false≢true on)) (λ off on. on) on
 
 -- and what is kept goes on

@@ -16,27 +16,23 @@ use Rattle.cf_wires.specs.declared.event.Delivery.{Delivery}
 use Rattle.cf_wires.specs.declared.event.Delivery.TheVariants.{Got, Gone, Tick, Ended}
 use Rattle.cf_wires.specs.declared.event.Event.{Event}
 use Rattle.cf_wires.specs.declared.event.Event.TheVariants.{Dialled, NotDialled, Sent, SendFailed, Closed, Took}
+use Rattle.cf_wires.specs.declared.event.Mark.{Mark}
+use Rattle.cf_wires.specs.declared.event.Mark.TheVariants as mark
 use Rattle.cf_peer.specs.declared.mode.Mode.{Mode}
 use Rattle.cf_peer.specs.declared.mode.Mode.TheVariants.{Once, Following}
 use Rattle.cf_peer.specs.declared.peer.Cause.{Cause}
 use Rattle.cf_peer.specs.declared.peer.Cause.TheVariants.{BadFrame, Malformed as IsMalformed, Unlinked as NotLinked, InvalidHeader, TooHigh as AboveLimit}
 use Rattle.cf_wires.specs.Log.{Log}
 
--- how a peer is lost: it went, or was never there; a send to it failed; or it was closed
-pub data Why : Type 0 where
-  Went : Why
-  Failing : Why
-  Shutting : Why
-
 -- What may pass between the client and one peer: it was dialled; it said a message; a frame of it, or its bytes, deserve a cause; it was sent a message, be it
--- a question or a reply; so many seconds have passed; it was lost.
+-- a question or a reply; so many seconds have passed; it was lost, so.
 pub data Item : Type 0 where
   Called : Item
   Said : (m : Msg) → Item
   Refused : (cause : Cause) → Item
   Asked : (m : Msg) → Item
   Passed : (seconds : ℕ) → Item
-  Lost : (why : Why) → Item
+  Lost : (mark : Mark) → Item
 
 -- all that passed between the client and one peer, the newest first
 abbrev pub Trail : Type 0
@@ -114,17 +110,17 @@ called_part part = record { trail = Called ∷ part.trail; waits = [] }
 -- p's part after a delivery: bytes of p are read on, p's going is its loss, and seconds pass for all peers
 abbrev pub took : Delivery → ℕ → Part → Part
 took (Got q piece) p part = if q.0 == p then heard_part piece part else part
-took (Gone q) p part = if q.0 == p then with_item (Lost Went) part else part
+took (Gone q) p part = if q.0 == p then with_item (Lost mark.Gone) part else part
 took (Tick s) p part = with_item (Passed s) part
 took Ended p part = part
 
 -- p's part after one entry of the log: a dial, a send, a failed send or a close of p's, or a delivery
 abbrev pub went_on : Event → ℕ → Part → Part
 went_on (Dialled q name) p part = if q.0 == p then called_part part else part
-went_on (NotDialled q name) p part = if q.0 == p then with_item (Lost Went) part else part
+went_on (NotDialled q name) p part = if q.0 == p then with_item (Lost mark.NotDialled) part else part
 went_on (Sent q bytes) p part = if q.0 == p then record part { trail = asks (spelled bytes) part.trail } else part
-went_on (SendFailed q) p part = if q.0 == p then with_item (Lost Failing) part else part
-went_on (Closed q) p part = if q.0 == p then with_item (Lost Shutting) part else part
+went_on (SendFailed q) p part = if q.0 == p then with_item (Lost mark.SendFailed) part else part
+went_on (Closed q) p part = if q.0 == p then with_item (Lost mark.Closed) part else part
 went_on (Took d) p part = took d p part
 
 -- the part of the peer with this number
@@ -154,7 +150,7 @@ has_filters services = bit_and services 65 == 65
 abbrev pub connected : Trail → Bool
 connected [] = false
 connected (Called ∷ t) = true
-connected (Lost w ∷ t) = false
+connected (Lost m ∷ t) = false
 connected (_ ∷ t) = connected t
 
 -- the client has sent its version
@@ -245,16 +241,15 @@ first (Some c) later = Some c
 first None later = later
 
 -- a peer was lost by a send that failed
-abbrev pub is_failing : Why → Bool
-is_failing Went = false
-is_failing Failing = true
-is_failing Shutting = false
+abbrev pub is_failing : Mark → Bool
+is_failing mark.SendFailed = true
+is_failing _ = false
 
 -- a send to it has failed since it was dialled
 abbrev pub failed : Trail → Bool
 failed [] = false
 failed (Called ∷ t) = false
-failed (Lost w ∷ t) = is_failing w || failed t
+failed (Lost m ∷ t) = is_failing m || failed t
 failed (_ ∷ t) = failed t
 
 -- what is owed to its messages: one verack to its version, and after that one pong to each ping

@@ -6,8 +6,10 @@ use Rattle.cf_msg.specs.declared.msg.Msg.TheVariants.{Version}
 use Rattle.cf_peer.specs.declared.mode.Mode.TheVariants.{Following}
 use Rattle.cf_peer.specs.declared.peer.Cause.{Cause}
 use Rattle.cf_peer.specs.declared.peer.Cause.TheVariants.{SendFailed, Omits}
+use Rattle.cf_wires.specs.declared.event.Mark.{Mark}
+use Rattle.cf_wires.specs.declared.event.Mark.TheVariants as mark
 use Rattle.cf_wires.specs.Log.{Log, tally_of}
-use Rattle.cf_peer.specs.Trail.{Why, Went, Failing, Shutting, Trail, Called, Said, Refused, Asked, Passed, Lost as LostItem, trail, connected, ready, failed, replies_owed, replied, is_version, IsClientVersion}
+use Rattle.cf_peer.specs.Trail.{Trail, Called, Said, Refused, Asked, Passed, Lost as LostItem, trail, connected, ready, failed, replies_owed, replied, is_version, IsClientVersion}
 use Rattle.cf_peer.specs.Asking.{Deserves, claims, counted, given}
 use Rattle.cf_sync.specs.Blame.{HasOmitted}
 use Rattle.cf_sync.specs.Fetching.{IsBusy, IsQuiet, IsConnected, IsOmitting, RightlyIn}
@@ -31,23 +33,22 @@ pub record IsAnswered (t : Trail) : Type 0 where
   pub replies : replied t ≡ replies_owed t
 
 -- the first loss since a peer was dialled, by how it was lost and what had passed before
-abbrev pub FirstLost : (Why → Trail → Type 0) → Trail → Type 0
+abbrev pub FirstLost : (Mark → Trail → Type 0) → Trail → Type 0
 FirstLost P [] = ⊥
 FirstLost P (Called ∷ t) = ⊥
-FirstLost P (LostItem why ∷ t) = ((connected t ≡ true) × P why t) ⊎ ((connected t ≡ false) × FirstLost P t)
+FirstLost P (LostItem m ∷ t) = ((connected t ≡ true) × P m t) ⊎ ((connected t ≡ false) × FirstLost P t)
 FirstLost P (_ ∷ t) = FirstLost P t
 
 -- it went, or was never there: it wasn't closed, and no send to it failed
-abbrev pub IsGoing : Why → Trail → Type 0
-IsGoing Went t = Unit {0}
-IsGoing Failing t = ⊥
-IsGoing Shutting t = ⊥
+abbrev pub IsGoing : Mark → Trail → Type 0
+IsGoing mark.NotDialled t = Unit {0}
+IsGoing mark.Gone t = Unit {0}
+IsGoing _ t = ⊥
 
 -- it was closed: for an omission, of which its own part doesn't tell, or for a cause that it deserved then
-abbrev pub IsShutFor : Cause → Why → Trail → Type 0
-IsShutFor cause Went t = ⊥
-IsShutFor cause Failing t = ⊥
-IsShutFor cause Shutting t = (cause ≡ Omits) ⊎ Deserves t cause
+abbrev pub IsShutFor : Cause → Mark → Trail → Type 0
+IsShutFor cause mark.Closed t = (cause ≡ Omits) ⊎ Deserves t cause
+IsShutFor cause _ t = ⊥
 
 -- how a peer was lost: it was never called; a send to it failed; or none did, and before all else it went or was closed
 abbrev pub LostBy : Loss → Trail → Type 0

@@ -17,10 +17,12 @@ use Rattle.cf_peer.specs.declared.act.Act.{Act}
 use Rattle.cf_peer.specs.declared.act.Act.TheVariants.{Send, Close}
 use Rattle.cf_wires.specs.declared.event.Event.{Event}
 use Rattle.cf_wires.specs.declared.event.Event.TheVariants.{Sent, SendFailed, Closed}
+use Rattle.cf_wires.specs.declared.event.Mark.{Mark}
+use Rattle.cf_wires.specs.declared.event.Mark.TheVariants as mark
 use Rattle.cf_peer.specs.declared.peer.Cause.{Cause}
 use Rattle.cf_peer.specs.Acts.{bytes_of}
 use Rattle.cf_wires.specs.Log.{Log, Told, Tells, tally_of, noted, tell, longer}
-use Rattle.cf_peer.specs.Trail.{Trail, Part, Why, Item, Asked, Lost, Failing, Shutting, spelled, asks, with_item, part_of, trail, went_on, connected, failed, is_failing}
+use Rattle.cf_peer.specs.Trail.{Trail, Part, Item, Asked, Lost, spelled, asks, with_item, part_of, trail, went_on, connected, failed, is_failing}
 use Rattle.cf_dispute.specs.Claims.{Table}
 use Rattle.cf_peer.specs.Asking.{counted, fetched, given, MayAskIn, MayPing}
 use Rattle.cf_peer.specs.declared.mode.Mode.{Mode}
@@ -103,50 +105,50 @@ asked_alike : (b : Bool) (o : Option Msg) (t u : Part) → Alike t u
 asked_alike b o t u (inl same) = inl (ap (λ (x : Part). if b then record x { trail = asks o x.trail } else x) same)
 asked_alike b o t u (inr off) = inr (asked_connected b o t ∙ off.0, asked_connected b o u ∙ off.1, asked_failed b o t ∙ off.2, asked_failed b o u ∙ off.3, asked_brought b o t ∙ off.4 ∙ sym (asked_brought b o u), asked_came b o t ∙ off.5 ∙ sym (asked_came b o u))
 
-pub lost_off : (b : Bool) (w : Why) (part : Part) → connected part.trail ≡ false → connected (if b then with_item (Lost w) part else part).trail ≡ false
-lost_off true w part off = refl
-lost_off false w part off = off
+pub lost_off : (b : Bool) (m : Mark) (part : Part) → connected part.trail ≡ false → connected (if b then with_item (Lost m) part else part).trail ≡ false
+lost_off true m part off = refl
+lost_off false m part off = off
 
-lost_brought : (b : Bool) (w : Why) (part : Part) → fetched (counted (if b then with_item (Lost w) part else part).trail) ≡ fetched (counted part.trail)
-lost_brought true w part = refl
-lost_brought false w part = refl
+lost_brought : (b : Bool) (m : Mark) (part : Part) → fetched (counted (if b then with_item (Lost m) part else part).trail) ≡ fetched (counted part.trail)
+lost_brought true m part = refl
+lost_brought false m part = refl
 
-lost_came : (b : Bool) (w : Why) (part : Part) → given (counted (if b then with_item (Lost w) part else part).trail) ≡ given (counted part.trail)
-lost_came true w part = refl
-lost_came false w part = refl
+lost_came : (b : Bool) (m : Mark) (part : Part) → given (counted (if b then with_item (Lost m) part else part).trail) ≡ given (counted part.trail)
+lost_came true m part = refl
+lost_came false m part = refl
 
 -- a peer that is lost once more
 any_failing : (b : Bool) → (b || true) ≡ true
 any_failing true = refl
 any_failing false = refl
 
-failed_still : (b : Bool) (w : Why) (part : Part) → failed part.trail ≡ true → failed (if b then with_item (Lost w) part else part).trail ≡ true
-failed_still true w part off = ap (λ (x : Bool). is_failing w || x) off ∙ any_failing (is_failing w)
-failed_still false w part off = off
+failed_still : (b : Bool) (m : Mark) (part : Part) → failed part.trail ≡ true → failed (if b then with_item (Lost m) part else part).trail ≡ true
+failed_still true m part off = ap (λ (x : Bool). is_failing m || x) off ∙ any_failing (is_failing m)
+failed_still false m part off = off
 
-lost_alike : (b : Bool) (w : Why) (t u : Part) → Alike t u → Alike (if b then with_item (Lost w) t else t) (if b then with_item (Lost w) u else u)
-lost_alike b w t u (inl same) = inl (ap (λ (x : Part). if b then with_item (Lost w) x else x) same)
-lost_alike b w t u (inr off) = inr (lost_off b w t off.0, lost_off b w u off.1, failed_still b w t off.2, failed_still b w u off.3, lost_brought b w t ∙ off.4 ∙ sym (lost_brought b w u), lost_came b w t ∙ off.5 ∙ sym (lost_came b w u))
+lost_alike : (b : Bool) (m : Mark) (t u : Part) → Alike t u → Alike (if b then with_item (Lost m) t else t) (if b then with_item (Lost m) u else u)
+lost_alike b m t u (inl same) = inl (ap (λ (x : Part). if b then with_item (Lost m) x else x) same)
+lost_alike b m t u (inr off) = inr (lost_off b m t off.0, lost_off b m u off.1, failed_still b m t off.2, failed_still b m u off.3, lost_brought b m t ∙ off.4 ∙ sym (lost_brought b m u), lost_came b m t ∙ off.5 ∙ sym (lost_came b m u))
 
 -- an entry that brings nothing
 pub sent_brought : (p : PeerNo) (bytes : List ℕ) (log : Log) (q : ℕ) → fetched (counted_part (Sent p bytes ∷ log) q) ≡ fetched (counted_part log q)
 sent_brought p bytes log q = asked_brought (p.0 == q) (spelled bytes) (part_of log q)
 
 pub closed_brought : (p : PeerNo) (log : Log) (q : ℕ) → fetched (counted_part (Closed p ∷ log) q) ≡ fetched (counted_part log q)
-closed_brought p log q = lost_brought (p.0 == q) Shutting (part_of log q)
+closed_brought p log q = lost_brought (p.0 == q) mark.Closed (part_of log q)
 
 pub failing_brought : (p : PeerNo) (log : Log) (q : ℕ) → fetched (counted_part (SendFailed p ∷ log) q) ≡ fetched (counted_part log q)
-failing_brought p log q = lost_brought (p.0 == q) Failing (part_of log q)
+failing_brought p log q = lost_brought (p.0 == q) mark.SendFailed (part_of log q)
 
 -- nor a filter
 pub sent_came : (p : PeerNo) (bytes : List ℕ) (log : Log) (q : ℕ) → given (counted_part (Sent p bytes ∷ log) q) ≡ given (counted_part log q)
 sent_came p bytes log q = asked_came (p.0 == q) (spelled bytes) (part_of log q)
 
 pub closed_came : (p : PeerNo) (log : Log) (q : ℕ) → given (counted_part (Closed p ∷ log) q) ≡ given (counted_part log q)
-closed_came p log q = lost_came (p.0 == q) Shutting (part_of log q)
+closed_came p log q = lost_came (p.0 == q) mark.Closed (part_of log q)
 
 pub failing_came : (p : PeerNo) (log : Log) (q : ℕ) → given (counted_part (SendFailed p ∷ log) q) ≡ given (counted_part log q)
-failing_came p log q = lost_came (p.0 == q) Failing (part_of log q)
+failing_came p log q = lost_came (p.0 == q) mark.SendFailed (part_of log q)
 
 pub sent_connected : (p : PeerNo) (bytes : List ℕ) (q : ℕ) (part : Part) → connected (went_on (Sent p bytes) q part).trail ≡ connected part.trail
 sent_connected p bytes q part = asked_connected (p.0 == q) (spelled bytes) part
@@ -161,10 +163,10 @@ closed_others p q part ne = grind (arith, common_steps)
 pub failing_others : (p : PeerNo) (q : ℕ) (part : Part) → q ≢ p.0 → went_on (SendFailed p) q part ≡ part
 failing_others p q part ne = grind (arith, common_steps)
 
-failing_here : (p : PeerNo) (q : ℕ) (part : Part) → q ≡ p.0 → went_on (SendFailed p) q part ≡ with_item (Lost Failing) part
+failing_here : (p : PeerNo) (q : ℕ) (part : Part) → q ≡ p.0 → went_on (SendFailed p) q part ≡ with_item (Lost mark.SendFailed) part
 failing_here p q part e = grind (arith, common_steps)
 
-closed_here : (p : PeerNo) (q : ℕ) (part : Part) → q ≡ p.0 → went_on (Closed p) q part ≡ with_item (Lost Shutting) part
+closed_here : (p : PeerNo) (q : ℕ) (part : Part) → q ≡ p.0 → went_on (Closed p) q part ≡ with_item (Lost mark.Closed) part
 closed_here p q part e = grind (arith, common_steps)
 
 pub sent_here : (p : PeerNo) (bytes : List ℕ) (m : Msg) (q : ℕ) (part : Part) → q ≡ p.0 → spelled bytes ≡ Some m → went_on (Sent p bytes) q part ≡ with_item (Asked m) part
@@ -321,7 +323,7 @@ pub skipped_close : {rule : Rule} (acts : List Act) (progress : Progress) (calle
     → is_pending (state_at progress.sends p.0) ≡ true → MayAct rule (Close p cause) planned
     → Doing rule (Close p cause ∷ acts) progress called planned t → Doing rule acts progress called (Closed p ∷ planned) t
 skipped_close acts progress called planned t p cause is may doing =
-    skipped (Close p cause) acts progress called planned t p.0 (Closed p) (Lost Shutting) is
+    skipped (Close p cause) acts progress called planned t p.0 (Closed p) (Lost mark.Closed) is
     (λ q ne. closed_others p q (part_of planned q) ne)
     (λ q e. closed_here p q (part_of planned q) e)
     (λ more meant. meant) (λ q ne. closes_others p cause acts q ne) refl (λ q. closed_brought p planned q) (λ q. closed_came p planned q) (λ job h. h)
@@ -440,11 +442,11 @@ closed_on acts progress trace called planned t p cause free line may doing =
         traced = subst (λ (lines : List TraceLine). IsTraceOf (Closed p ∷ doing.actual) lines) (sym (ap reverse line ∙ reverse_push progress.trace.items (ClosedLine p cause)))
             ((refl, deserves, is_named), doing.notes.traced);
         named = doing.notes.named;
-        off = λ q not_it. lost_off (p.0 == q) Shutting (part_of doing.actual q) (doing.notes.off q not_it);
+        off = λ q not_it. lost_off (p.0 == q) mark.Closed (part_of doing.actual q) (doing.notes.off q not_it);
         shut = λ q it. elim (cases_eq q p.0) [
           | inl e ↦ (ap (λ (x : Part). connected x.trail) (closed_here p q (part_of doing.actual q) e), untold_closed_here p doing.actual q e)
           | inr ne ↦ let s = doing.notes.shut q (sym (get_or-set_other progress.closed p.0 q true false ne) ∙ it) in
-              (lost_off (p.0 == q) Shutting (part_of doing.actual q) s.0, untold_closed_others p doing.actual q ne ∙ s.1)
+              (lost_off (p.0 == q) mark.Closed (part_of doing.actual q) s.0, untold_closed_others p doing.actual q ne ∙ s.1)
         ];
         new = λ q le. let ne : q ≢ p.0 = λ e. absurd (omega (arith, doing.plan.dials, may.0)) in
             let n = doing.notes.new q le in (n.0, get_or-set_other progress.closed p.0 q true false ne ∙ n.1);
@@ -456,14 +458,14 @@ closed_on acts progress trace called planned t p cause free line may doing =
               let e : q ≡ p.0 = elim (cases_eq q p.0) [ inl e ↦ e | inr ne ↦ absurd (both_ways (is_untold doing.actual q) (sym (untold_closed_others p doing.actual q ne) ∙ told) untold) ] in
               let k = doing.known q untold (ap (λ (n : ℕ). is_pending (state_at progress.sends n)) e ∙ free) in
               inr (
-                lost_off (p.0 == q) Shutting (part_of planned q) k.0,
-                lost_off (p.0 == q) Shutting (part_of doing.actual q) (doing.broken q untold).0,
-                failed_still (p.0 == q) Shutting (part_of planned q) k.1,
-                failed_still (p.0 == q) Shutting (part_of doing.actual q) (doing.broken q untold).1,
+                lost_off (p.0 == q) mark.Closed (part_of planned q) k.0,
+                lost_off (p.0 == q) mark.Closed (part_of doing.actual q) (doing.broken q untold).0,
+                failed_still (p.0 == q) mark.Closed (part_of planned q) k.1,
+                failed_still (p.0 == q) mark.Closed (part_of doing.actual q) (doing.broken q untold).1,
                 closed_brought p planned q ∙ doing.brought q ∙ sym (closed_brought p doing.actual q),
                 closed_came p planned q ∙ doing.came q ∙ sym (closed_came p doing.actual q),
               )
-          | inr fine ↦ lost_alike (p.0 == q) Shutting (part_of planned q) (part_of doing.actual q) (doing.plan.told q fine)
+          | inr fine ↦ lost_alike (p.0 == q) mark.Closed (part_of planned q) (part_of doing.actual q) (doing.plan.told q fine)
         ];
         untold = λ q untold. let b = before q untold in let more = doing.plan.untold q b.1 in
             (more.0, (more.1.0, closed_others p q (part_of planned q) b.0 ∙ more.1.1));
@@ -510,9 +512,9 @@ closed_on acts progress trace called planned t p cause free line may doing =
       due = λ q untold. let b = before q untold in
           ap (λ (x : Bool). is_pending (state_at progress.sends q) || x) (sym (closes_others p cause acts q b.0)) ∙ doing.due q b.1;
       broken = λ q untold. let b = doing.broken q (before q untold).1 in
-          (lost_off (p.0 == q) Shutting (part_of doing.actual q) b.0, failed_still (p.0 == q) Shutting (part_of doing.actual q) b.1);
+          (lost_off (p.0 == q) mark.Closed (part_of doing.actual q) b.0, failed_still (p.0 == q) mark.Closed (part_of doing.actual q) b.1);
       known = λ q untold pends. let b = doing.known q (before q untold).1 pends in
-          (lost_off (p.0 == q) Shutting (part_of planned q) b.0, failed_still (p.0 == q) Shutting (part_of planned q) b.1);
+          (lost_off (p.0 == q) mark.Closed (part_of planned q) b.0, failed_still (p.0 == q) mark.Closed (part_of planned q) b.1);
     }
 
 -- a peer was closed already, and a second close is not done
@@ -529,9 +531,9 @@ closed_again acts progress called planned t p cause free shut may doing =
       plan = record {
         told = λ q told. elim (cases_eq q p.0) [
           | inl e ↦ inr (
-            lost_off (p.0 == q) Shutting (part_of planned q) (ap (λ (k : ℕ). connected (trail planned k)) e ∙ both.0),
+            lost_off (p.0 == q) mark.Closed (part_of planned q) (ap (λ (k : ℕ). connected (trail planned k)) e ∙ both.0),
             ap (λ (k : ℕ). connected (trail doing.actual k)) e ∙ s.0,
-            failed_still (p.0 == q) Shutting (part_of planned q) (ap (λ (k : ℕ). failed (trail planned k)) e ∙ both.1),
+            failed_still (p.0 == q) mark.Closed (part_of planned q) (ap (λ (k : ℕ). failed (trail planned k)) e ∙ both.1),
             ap (λ (k : ℕ). failed (trail doing.actual k)) e ∙ both.2,
             closed_brought p planned q ∙ doing.brought q,
             closed_came p planned q ∙ doing.came q,
@@ -558,7 +560,7 @@ closed_again acts progress called planned t p cause free shut may doing =
       due = λ q untold. ap (λ (x : Bool). is_pending (state_at progress.sends q) || x) (sym (closes_others p cause acts q (other q untold))) ∙ doing.due q untold;
       broken = doing.broken;
       known = λ q untold pends. let b = doing.known q untold pends in
-          (lost_off (p.0 == q) Shutting (part_of planned q) b.0, failed_still (p.0 == q) Shutting (part_of planned q) b.1);
+          (lost_off (p.0 == q) mark.Closed (part_of planned q) b.0, failed_still (p.0 == q) mark.Closed (part_of planned q) b.1);
     } where
       other : (q : ℕ) → is_untold doing.actual q ≡ true → q ≢ p.0
       other q untold e = both_ways (is_untold doing.actual q) (ap (is_untold doing.actual) e ∙ (doing.notes.shut p.0 shut).1) untold
@@ -603,11 +605,11 @@ failed_on {rule = rule} acts progress called planned t p m lt free may doing =
         named = doing.notes.named;
         off = λ q not_it. elim (cases_eq q p.0) [
           | inl e ↦ ap (λ (x : Part). connected x.trail) (failing_here p q (part_of doing.actual q) e)
-          | inr ne ↦ lost_off (p.0 == q) Failing (part_of doing.actual q) (doing.notes.off q (sym (ap is_fine (there q ne)) ∙ not_it))
+          | inr ne ↦ lost_off (p.0 == q) mark.SendFailed (part_of doing.actual q) (doing.notes.off q (sym (ap is_fine (there q ne)) ∙ not_it))
         ];
         shut = λ q it. let s = doing.notes.shut q it in
             let ne : q ≢ p.0 = λ e. both_ways (connected (trail doing.actual q)) s.0 (ap (λ (k : ℕ). connected (trail doing.actual k)) e ∙ on_too) in
-            (lost_off (p.0 == q) Failing (part_of doing.actual q) s.0, untold_failing_others p doing.actual q ne ∙ s.1);
+            (lost_off (p.0 == q) mark.SendFailed (part_of doing.actual q) s.0, untold_failing_others p doing.actual q ne ∙ s.1);
         new = λ q le. let ne : q ≢ p.0 = λ e. absurd (omega (arith, doing.plan.dials, may.0)) in
             let n = doing.notes.new q le in (ap is_fine (there q ne) ∙ n.0, n.1);
         few = doing.notes.few;
@@ -672,7 +674,7 @@ failed_on {rule = rule} acts progress called planned t p m lt free may doing =
           ap (λ (x : Part). failed x.trail) (failing_here p q (part_of doing.actual q) e),
         )
         | inr ne ↦ let b = doing.broken q (before q ne untold) in
-            (lost_off (p.0 == q) Failing (part_of doing.actual q) b.0, failed_still (p.0 == q) Failing (part_of doing.actual q) b.1)
+            (lost_off (p.0 == q) mark.SendFailed (part_of doing.actual q) b.0, failed_still (p.0 == q) mark.SendFailed (part_of doing.actual q) b.1)
       ];
       known = λ q untold clear. elim (cases_eq q p.0) [
         | inl e ↦ absurd (both_ways (is_pending (state_at (set progress.sends p.0 Pending) q)) clear (pends q e))
@@ -770,7 +772,7 @@ told_one rest progress called planned t p cause lt is doing =
             let ne : q ≢ p.0 = λ e. both_ways (is_untold doing.actual q) told (doing.pending q (was q e)) in
             subst (λ (x : Part). Alike x (part_of doing.actual q)) (sym (failing_others p q (part_of planned q) ne)) (doing.plan.told q told);
         untold = λ q untold. let more = doing.plan.untold q untold in elim (cases_eq q p.0) [
-          | inl e ↦ (Lost Failing ∷ more.0, (more.1.0, failing_here p q (part_of planned q) e ∙ ap (with_item (Lost Failing)) more.1.1))
+          | inl e ↦ (Lost mark.SendFailed ∷ more.0, (more.1.0, failing_here p q (part_of planned q) e ∙ ap (with_item (Lost mark.SendFailed)) more.1.1))
           | inr ne ↦ (more.0, (more.1.0, failing_others p q (part_of planned q) ne ∙ more.1.1))
         ];
         dials = doing.plan.dials;

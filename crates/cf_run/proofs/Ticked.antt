@@ -10,6 +10,8 @@ use Rattle.cf_msg.specs.declared.msg.Msg.TheVariants.{Version, Verack, Ping, Pon
 use Rattle.cf_wires.specs.declared.event.Delivery.{Delivery}
 use Rattle.cf_wires.specs.declared.event.Delivery.TheVariants.{Got, Gone, Tick, Ended}
 use Rattle.cf_wires.specs.declared.event.Event.TheVariants.{Dialled, NotDialled, Sent, SendFailed, Closed, Took}
+use Rattle.cf_wires.specs.declared.event.Mark.{Mark}
+use Rattle.cf_wires.specs.declared.event.Mark.TheVariants as mark
 use Rattle.cf_wires.specs.Log.{Log, Told}
 use Rattle.cf_peer.specs.declared.act.Act.{Act}
 use Rattle.cf_peer.specs.declared.act.Act.TheVariants.{Send, Close}
@@ -17,7 +19,7 @@ use Rattle.cf_peer.specs.declared.mode.Mode.{Mode}
 use Rattle.cf_peer.specs.declared.mode.Mode.TheVariants.{Once, Following}
 use Rattle.cf_peer.specs.Acts.{bytes_of}
 use Rattle.cf_peer.specs.Asking.{MayAskIn, block_asked, claims_asked, filters_asked, is_idle, is_open, pings, request}
-use Rattle.cf_peer.specs.Trail.{Trail, Part, Why, Asked, Lost, Failing, Shutting, Went, called_part, connected, part_of, ready, spelled, trail, with_item}
+use Rattle.cf_peer.specs.Trail.{Trail, Part, Asked, Lost, called_part, connected, part_of, ready, spelled, trail, with_item}
 use Rattle.cf_sync.specs.Fetching.{Rule, is_after_tick}
 use Rattle.cf_place.specs.Places.{Allowed, MayAct, after, entry_of}
 use Rattle.cf_client.specs.Stands.{ArePinged}
@@ -87,22 +89,22 @@ ticked_sent Following p m log spells may was = λ is q on. elim (cases_eq q p.0)
 
 -- ---- a peer is lost, or dialled
 
-lost_open : (b : Bool) (w : Why) (part : Part) → (connected part.trail ≡ true → StillOpen part.trail)
-    → connected (if b then with_item (Lost w) part else part).trail ≡ true → StillOpen (if b then with_item (Lost w) part else part).trail
-lost_open true w part was on = absurd (false≢true on)
-lost_open false w part was on = was on
+lost_open : (b : Bool) (m : Mark) (part : Part) → (connected part.trail ≡ true → StillOpen part.trail)
+    → connected (if b then with_item (Lost m) part else part).trail ≡ true → StillOpen (if b then with_item (Lost m) part else part).trail
+lost_open true m part was on = absurd (false≢true on)
+lost_open false m part was on = was on
 
 ticked_closed : (mode : Mode) (p : PeerNo) (log : Log) → IsTicked mode log → IsTicked mode (Closed p ∷ log)
 ticked_closed Once p log was = tt
-ticked_closed Following p log was = λ is q on. lost_open (p.0 == q) Shutting (part_of log q) (was is q) on
+ticked_closed Following p log was = λ is q on. lost_open (p.0 == q) mark.Closed (part_of log q) (was is q) on
 
 ticked_failed : (mode : Mode) (p : PeerNo) (log : Log) → IsTicked mode log → IsTicked mode (SendFailed p ∷ log)
 ticked_failed Once p log was = tt
-ticked_failed Following p log was = λ is q on. lost_open (p.0 == q) Failing (part_of log q) (was is q) on
+ticked_failed Following p log was = λ is q on. lost_open (p.0 == q) mark.SendFailed (part_of log q) (was is q) on
 
 missed : (mode : Mode) (p : PeerNo) (name : List ℕ) (log : Log) → IsTicked mode log → IsTicked mode (NotDialled p name ∷ log)
 missed Once p name log was = tt
-missed Following p name log was = λ is q on. lost_open (p.0 == q) Went (part_of log q) (was is q) on
+missed Following p name log was = λ is q on. lost_open (p.0 == q) mark.NotDialled (part_of log q) (was is q) on
 
 called_open : (b : Bool) (part : Part) → (connected part.trail ≡ true → StillOpen part.trail)
     → connected (if b then called_part part else part).trail ≡ true → StillOpen (if b then called_part part else part).trail

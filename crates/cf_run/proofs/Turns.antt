@@ -17,7 +17,7 @@ use Rattle.cf_wires.specs.declared.event.Event.TheVariants.{Dialled, NotDialled,
 use Rattle.cf_wires.specs.declared.event.Mark.{Mark}
 use Rattle.cf_wires.specs.declared.event.Mark.TheVariants as mark
 use Rattle.cf_wires.specs.Log.{Log, Told, Tally, Tells, tally_of, tell, dials}
-use Rattle.cf_peer.specs.Trail.{Trail, Part, Why, Lost, Failing, Shutting, Went, heard_part, called_part, with_item, part_of, trail, went_on, connected, ready}
+use Rattle.cf_peer.specs.Trail.{Trail, Part, Lost, heard_part, called_part, with_item, part_of, trail, went_on, connected, ready}
 use Rattle.cf_peer.specs.Asking.{is_open, is_idle, request}
 use Rattle.cf_scan.specs.declared.history.Entry.{Entry}
 use Rattle.cf_peer.specs.declared.mode.Mode.{Mode}
@@ -148,8 +148,8 @@ not_dialled_holds c d progress called t p name holds is room untaken unended sam
         first = (untaken_so holds.actual t holds.notes.tells untaken unended, holds.notes.first);
         traced = holds.notes.traced;
         named = more_names holds.actual (record { name = name; answered = false }) called holds.notes.named;
-        off = λ q not_it. lost_off (p.0 == q) Went (part_of holds.actual q) (holds.notes.off q not_it);
-        shut = λ q it. (lost_off (p.0 == q) Went (part_of holds.actual q) (holds.notes.shut q it).0, holds.told_all q);
+        off = λ q not_it. lost_off (p.0 == q) mark.NotDialled (part_of holds.actual q) (holds.notes.off q not_it);
+        shut = λ q it. (lost_off (p.0 == q) mark.NotDialled (part_of holds.actual q) (holds.notes.shut q it).0, holds.told_all q);
         new = λ q le. holds.notes.new q (omega (arith, le));
         few = omega (arith, count, room);
       };
@@ -161,7 +161,7 @@ not_dialled_holds c d progress called t p name holds is room untaken unended sam
 
 off_took : (d : Delivery) (q : ℕ) (part : Part) → connected part.trail ≡ false → connected (went_on (Took d) q part).trail ≡ false
 off_took (Got p piece) q part off = got_connected (p.0 == q) piece part ∙ off
-off_took (Gone p) q part off = lost_off (p.0 == q) Went part off
+off_took (Gone p) q part off = lost_off (p.0 == q) mark.Gone part off
 off_took (Tick s) q part off = off
 off_took Ended q part off = off
 
@@ -365,21 +365,21 @@ mark_step (Dialled q name) log p lt before = record {
 }
 mark_step (NotDialled q name) log p lt before = record {
   size = kept_size (tally_of log).marks q.0 mark.NotDialled before.size;
-  says = mark_set (tally_of log).marks q.0 p mark.NotDialled (connected (trail log p)) lt before.size before.says ∙ push_if (q.0 == p) (with_item (Lost Went) (part_of log p)) (part_of log p);
+  says = mark_set (tally_of log).marks q.0 p mark.NotDialled (connected (trail log p)) lt before.size before.says ∙ push_if (q.0 == p) (with_item (Lost mark.NotDialled) (part_of log p)) (part_of log p);
 }
 mark_step (Sent q bytes) log p lt before = record { size = before.size; says = before.says ∙ sym (sent_connected q bytes p (part_of log p)) }
 mark_step (SendFailed q) log p lt before = record {
   size = kept_size (tally_of log).marks q.0 mark.SendFailed before.size;
-  says = mark_set (tally_of log).marks q.0 p mark.SendFailed (connected (trail log p)) lt before.size before.says ∙ push_if (q.0 == p) (with_item (Lost Failing) (part_of log p)) (part_of log p);
+  says = mark_set (tally_of log).marks q.0 p mark.SendFailed (connected (trail log p)) lt before.size before.says ∙ push_if (q.0 == p) (with_item (Lost mark.SendFailed) (part_of log p)) (part_of log p);
 }
 mark_step (Closed q) log p lt before = record {
   size = kept_size (tally_of log).marks q.0 mark.Closed before.size;
-  says = mark_set (tally_of log).marks q.0 p mark.Closed (connected (trail log p)) lt before.size before.says ∙ push_if (q.0 == p) (with_item (Lost Shutting) (part_of log p)) (part_of log p);
+  says = mark_set (tally_of log).marks q.0 p mark.Closed (connected (trail log p)) lt before.size before.says ∙ push_if (q.0 == p) (with_item (Lost mark.Closed) (part_of log p)) (part_of log p);
 }
 mark_step (Took (Got q piece)) log p lt before = record { size = before.size; says = before.says ∙ sym (got_connected (q.0 == p) piece (part_of log p)) }
 mark_step (Took (Gone q)) log p lt before = record {
   size = kept_size (tally_of log).marks q.0 mark.Gone before.size;
-  says = mark_set (tally_of log).marks q.0 p mark.Gone (connected (trail log p)) lt before.size before.says ∙ push_if (q.0 == p) (with_item (Lost Went) (part_of log p)) (part_of log p);
+  says = mark_set (tally_of log).marks q.0 p mark.Gone (connected (trail log p)) lt before.size before.says ∙ push_if (q.0 == p) (with_item (Lost mark.Gone) (part_of log p)) (part_of log p);
 }
 mark_step (Took (Tick s)) log p lt before = record { size = before.size; says = before.says }
 mark_step (Took Ended) log p lt before = record { size = before.size; says = before.says }
@@ -441,9 +441,9 @@ pub stops : {H M : Type 0} {g : Ghosts H} {j : Judges M} (end : End) (c : Client
 stops end c progress called t holds why = record { holds = holds; why = why holds.actual holds.reflects }
 
 -- whoever is connected was dialled, and so has a number
-lost_on : (b : Bool) (w : Why) (part : Part) → connected (if b then with_item (Lost w) part else part).trail ≡ true → connected part.trail ≡ true
-lost_on true w part on = absurd (false≢true on)
-lost_on false w part on = on
+lost_on : (b : Bool) (m : Mark) (part : Part) → connected (if b then with_item (Lost m) part else part).trail ≡ true → connected part.trail ≡ true
+lost_on true m part on = absurd (false≢true on)
+lost_on false m part on = on
 
 numbered_on : (log : Log) (p : ℕ) → AreNumbered log → connected (trail log p) ≡ true → (1 ≤ p) × (p ≤ (tally_of log).dials)
 numbered_on [] p n on = absurd (false≢true on)
@@ -453,12 +453,12 @@ numbered_on (Dialled q name ∷ log) p n on = elim (cases_eq p q.0) [
       let old = numbered_on log p n.1 (sym (ap (λ (x : Part). connected x.trail) (dialled_others q name p (part_of log p) ne)) ∙ on) in
       (old.0, omega (arith, old.1))
 ]
-numbered_on (NotDialled q name ∷ log) p n on = let old = numbered_on log p n.1 (lost_on (q.0 == p) Went (part_of log p) on) in (old.0, omega (arith, old.1))
+numbered_on (NotDialled q name ∷ log) p n on = let old = numbered_on log p n.1 (lost_on (q.0 == p) mark.NotDialled (part_of log p) on) in (old.0, omega (arith, old.1))
 numbered_on (Sent q bytes ∷ log) p n on = numbered_on log p n (sym (sent_connected q bytes p (part_of log p)) ∙ on)
-numbered_on (SendFailed q ∷ log) p n on = numbered_on log p n (lost_on (q.0 == p) Failing (part_of log p) on)
-numbered_on (Closed q ∷ log) p n on = numbered_on log p n (lost_on (q.0 == p) Shutting (part_of log p) on)
+numbered_on (SendFailed q ∷ log) p n on = numbered_on log p n (lost_on (q.0 == p) mark.SendFailed (part_of log p) on)
+numbered_on (Closed q ∷ log) p n on = numbered_on log p n (lost_on (q.0 == p) mark.Closed (part_of log p) on)
 numbered_on (Took (Got q piece) ∷ log) p n on = numbered_on log p n (sym (got_connected (q.0 == p) piece (part_of log p)) ∙ on)
-numbered_on (Took (Gone q) ∷ log) p n on = numbered_on log p n (lost_on (q.0 == p) Went (part_of log p) on)
+numbered_on (Took (Gone q) ∷ log) p n on = numbered_on log p n (lost_on (q.0 == p) mark.Gone (part_of log p) on)
 numbered_on (Took (Tick s) ∷ log) p n on = numbered_on log p n on
 numbered_on (Took Ended ∷ log) p n on = numbered_on log p n on
 

@@ -10,9 +10,10 @@ use Rattle.cf_msg.specs.declared.msg.Msg.TheVariants.{GetCfilters}
 use Rattle.cf_wires.specs.declared.event.Delivery.TheVariants.{Got, Gone, Tick, Ended}
 use Rattle.cf_wires.specs.declared.event.Event.{Event}
 use Rattle.cf_wires.specs.declared.event.Event.TheVariants.{Dialled, NotDialled, Sent, SendFailed, Closed, Took}
+use Rattle.cf_wires.specs.declared.event.Mark.TheVariants as mark
 use Rattle.cf_wires.specs.Log.{Log}
 use Rattle.cf_peer.specs.Asking.{counted, given}
-use Rattle.cf_peer.specs.Trail.{Trail, Part, Lost, Went, Failing, Shutting, called_part, with_item, spelled, asks, part_of, trail}
+use Rattle.cf_peer.specs.Trail.{Trail, Part, Lost, called_part, with_item, spelled, asks, part_of, trail}
 use Rattle.cf_sync.specs.Fetching.{counted_part, IsAnswered, IsFetchedHash, IsGiven, IsNoPiece, IsNoTest, IsTest, test_after}
 use Rattle.cf_sync.specs.Planned.{IsSameGiven}
 use Rattle.cf_sync.proofs.Entries.{at_either}
@@ -133,21 +134,21 @@ no_piece_gives (Dialled q name) log is p =
     at_either (GaveSame (trail log p)) (q.0 == p) (called_part (part_of log p)) (part_of log p)
     (λ is. refl) (λ off. refl)
 no_piece_gives (NotDialled q name) log is p =
-    at_either (GaveSame (trail log p)) (q.0 == p) (with_item (Lost Went) (part_of log p)) (part_of log p)
+    at_either (GaveSame (trail log p)) (q.0 == p) (with_item (Lost mark.NotDialled) (part_of log p)) (part_of log p)
     (λ is. refl) (λ off. refl)
 no_piece_gives (Sent q bytes) log is p =
     at_either (GaveSame (trail log p)) (q.0 == p) (record (part_of log p) { trail = asks (spelled bytes) (trail log p) })
     (part_of log p)
     (λ is. asks_none (spelled bytes) (trail log p)) (λ off. refl)
 no_piece_gives (SendFailed q) log is p =
-    at_either (GaveSame (trail log p)) (q.0 == p) (with_item (Lost Failing) (part_of log p)) (part_of log p)
+    at_either (GaveSame (trail log p)) (q.0 == p) (with_item (Lost mark.SendFailed) (part_of log p)) (part_of log p)
     (λ is. refl) (λ off. refl)
 no_piece_gives (Closed q) log is p =
-    at_either (GaveSame (trail log p)) (q.0 == p) (with_item (Lost Shutting) (part_of log p)) (part_of log p)
+    at_either (GaveSame (trail log p)) (q.0 == p) (with_item (Lost mark.Closed) (part_of log p)) (part_of log p)
     (λ is. refl) (λ off. refl)
 no_piece_gives (Took (Got q piece)) log is p = absurd is
 no_piece_gives (Took (Gone q)) log is p =
-    at_either (GaveSame (trail log p)) (q.0 == p) (with_item (Lost Went) (part_of log p)) (part_of log p)
+    at_either (GaveSame (trail log p)) (q.0 == p) (with_item (Lost mark.Gone) (part_of log p)) (part_of log p)
     (λ is. refl) (λ off. refl)
 no_piece_gives (Took (Tick s)) log is p = refl
 no_piece_gives (Took Ended) log is p = refl

@@ -18,12 +18,13 @@ use Rattle.cf_match.specs.declared.job.Job.{Job}
 use Rattle.cf_wires.specs.declared.event.Delivery.TheVariants.{Got, Gone, Tick, Ended}
 use Rattle.cf_wires.specs.declared.event.Event.{Event}
 use Rattle.cf_wires.specs.declared.event.Event.TheVariants.{Dialled, NotDialled, Sent, SendFailed, Closed, Took}
+use Rattle.cf_wires.specs.declared.event.Mark.TheVariants as mark
 use Rattle.cf_wires.specs.Log.{Log}
 use Rattle.cf_frame.specs.declared.frame.Frame.{Frame}
 use Rattle.cf_frame.specs.declared.frame.FrameFault.{FrameFault}
 use Rattle.cf_frame.specs.Stream.{StreamRead, read_stream}
 use Rattle.cf_msg.specs.declared.msg.Msg.{Msg}
-use Rattle.cf_peer.specs.Trail.{Trail, Part, Item, Called, Said, Refused, Asked, Passed, Lost, Went, Failing, Shutting, called_part, with_item, item_of, hears, hears_fault, part_after, heard_part, spelled, asks, part_of, trail}
+use Rattle.cf_peer.specs.Trail.{Trail, Part, Item, Called, Said, Refused, Asked, Passed, Lost, called_part, with_item, item_of, hears, hears_fault, part_after, heard_part, spelled, asks, part_of, trail}
 use Rattle.cf_peer.specs.Asking.{HasSaid, claims, verdict}
 use Rattle.cf_filter.specs.Lacking.{output_items_of, lacks}
 use Rattle.cf_sync.specs.Fetching.{counted_part, AreBytes, IsTest, IsTested, IsOmitting}
@@ -129,14 +130,14 @@ IsSaidIn m part = HasSaid part.trail m
 
 said_on : (e : Event) (log : Log) (p : ℕ) (m : Msg) → HasSaid (trail log p) m → HasSaid (trail (e ∷ log) p) m
 said_on (Dialled q name) log p m h = at_either (IsSaidIn m) (q.0 == p) (called_part (part_of log p)) (part_of log p) (λ is. h) (λ off. h)
-said_on (NotDialled q name) log p m h = at_either (IsSaidIn m) (q.0 == p) (with_item (Lost Went) (part_of log p)) (part_of log p) (λ is. h) (λ off. h)
+said_on (NotDialled q name) log p m h = at_either (IsSaidIn m) (q.0 == p) (with_item (Lost mark.NotDialled) (part_of log p)) (part_of log p) (λ is. h) (λ off. h)
 said_on (Sent q bytes) log p m h =
     at_either (IsSaidIn m) (q.0 == p) (record (part_of log p) { trail = asks (spelled bytes) (trail log p) }) (part_of log p) (λ is. said_asks (spelled bytes) (trail log p) m h) (λ off. h)
-said_on (SendFailed q) log p m h = at_either (IsSaidIn m) (q.0 == p) (with_item (Lost Failing) (part_of log p)) (part_of log p) (λ is. h) (λ off. h)
-said_on (Closed q) log p m h = at_either (IsSaidIn m) (q.0 == p) (with_item (Lost Shutting) (part_of log p)) (part_of log p) (λ is. h) (λ off. h)
+said_on (SendFailed q) log p m h = at_either (IsSaidIn m) (q.0 == p) (with_item (Lost mark.SendFailed) (part_of log p)) (part_of log p) (λ is. h) (λ off. h)
+said_on (Closed q) log p m h = at_either (IsSaidIn m) (q.0 == p) (with_item (Lost mark.Closed) (part_of log p)) (part_of log p) (λ is. h) (λ off. h)
 said_on (Took (Got q piece)) log p m h =
     at_either (IsSaidIn m) (q.0 == p) (heard_part piece (part_of log p)) (part_of log p) (λ is. said_read (read_stream ((part_of log p).waits ++ piece)) (trail log p) m h) (λ off. h)
-said_on (Took (Gone q)) log p m h = at_either (IsSaidIn m) (q.0 == p) (with_item (Lost Went) (part_of log p)) (part_of log p) (λ is. h) (λ off. h)
+said_on (Took (Gone q)) log p m h = at_either (IsSaidIn m) (q.0 == p) (with_item (Lost mark.Gone) (part_of log p)) (part_of log p) (λ is. h) (λ off. h)
 said_on (Took (Tick s)) log p m h = h
 said_on (Took Ended) log p m h = h
 

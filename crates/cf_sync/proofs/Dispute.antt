@@ -16,7 +16,8 @@ use Rattle.cf_peer.specs.declared.mode.Mode.TheVariants.{Once}
 use Rattle.cf_peer.specs.Acts.{bytes_of, IsSendable}
 use Rattle.cf_peer.specs.Asking.{block_entry, is_spare, NothingOpen, ClaimsOpen, FiltersOpen, claims_asked, claims, claims_after, claims_fault, hash_claimed, fault_of, request, request_after, is_idle, is_open, verdict, counted, fetched, HasSaid, MayAsk, SameUse, IsFree, filter_fault, filter_of, filters_asked, given, given_by}
 use Rattle.cf_wires.specs.Log.{Log}
-use Rattle.cf_peer.specs.Trail.{Trail, Said, Asked, part_of, trail, connected, own, is_heard_out, longer_of, ends_by, fault_in, first, Lost, Shutting, with_item}
+use Rattle.cf_wires.specs.declared.event.Mark.TheVariants as mark
+use Rattle.cf_peer.specs.Trail.{Trail, Said, Asked, part_of, trail, connected, own, is_heard_out, longer_of, ends_by, fault_in, first, Lost, with_item}
 use Rattle.cf_scan.specs.Scan.{scan_of}
 use Rattle.cf_scan.specs.Watching.{IsWatch}
 use Rattle.cf_bytes.specs.Hash.{hash_of}
@@ -79,7 +80,7 @@ abbrev v_11 : Trail
 v_11 = Said false_answer ∷ v_10
 
 abbrev v_12 : Trail
-v_12 = Lost Shutting ∷ v_11
+v_12 = Lost mark.Closed ∷ v_11
 
 other_9 : part_of dispute_9 2 ≡ at_rest v_7
 other_9 = got_part liar its_headers log_8 u_6 headers_sendable other_8
@@ -103,7 +104,7 @@ other_26 : part_of dispute_26 2 ≡ at_rest v_11
 other_26 = got_part liar false_answer dispute_25 v_10 answer_sendable other_24
 
 other_27 : part_of disputed_run 2 ≡ at_rest v_12
-other_27 = ap (with_item (Lost Shutting)) other_26
+other_27 = ap (with_item (Lost mark.Closed)) other_26
 
 part_10 : part_of dispute_10 1 ≡ at_rest t_2
 part_10 = part_2

@@ -15,10 +15,11 @@ use Rattle.cf_msg.specs.declared.msg.Msg.TheVariants.{Ping, GetHeaders, GetData,
 use Rattle.cf_wires.specs.declared.event.Delivery.TheVariants.{Got, Gone, Tick, Ended}
 use Rattle.cf_wires.specs.declared.event.Event.{Event}
 use Rattle.cf_wires.specs.declared.event.Event.TheVariants.{Dialled, NotDialled, Sent, SendFailed, Closed, Took}
+use Rattle.cf_wires.specs.declared.event.Mark.TheVariants as mark
 use Rattle.cf_peer.specs.declared.mode.Mode.TheVariants.{Following}
 use Rattle.cf_peer.specs.declared.peer.Cause.{Cause}
 use Rattle.cf_wires.specs.Log.{Log}
-use Rattle.cf_peer.specs.Trail.{Trail, Part, Asked, Lost, Went, Failing, Shutting, called_part, with_item, hears, hears_fault, part_after, heard_part, spelled, asks, part_of, trail, connected, failed}
+use Rattle.cf_peer.specs.Trail.{Trail, Part, Asked, Lost, called_part, with_item, hears, hears_fault, part_after, heard_part, spelled, asks, part_of, trail, connected, failed}
 use Rattle.cf_peer.specs.Asking.{is_open, age, claims, verdict, Deserves}
 use Rattle.cf_scan.specs.declared.history.Entry.{Entry}
 use Rattle.cf_sync.specs.Fetching.{AreBytes, DeservesIn, IsConnected, IsOmitting, IsQuiet, RightlyIn}
@@ -99,7 +100,7 @@ sound_on (Dialled q name) log p right none time stays s =
     at_either IsSoundPart (q.0 == p) (called_part (part_of log p)) (part_of log p)
     (λ is. record { on = λ h. refl; young = λ h. omega arith; whole = refl }) (λ off. s)
 sound_on (NotDialled q name) log p right none time stays s =
-    at_either IsSoundPart (q.0 == p) (with_item (Lost Went) (part_of log p)) (part_of log p)
+    at_either IsSoundPart (q.0 == p) (with_item (Lost mark.NotDialled) (part_of log p)) (part_of log p)
     (λ is. absurd (stays (eqb-true q.0 p is))) (λ off. s)
 sound_on (Sent q bytes) log p right none time stays s =
     at_either IsSoundPart (q.0 == p) (record (part_of log p) { trail = asks (spelled bytes) (trail log p) })
@@ -107,16 +108,16 @@ sound_on (Sent q bytes) log p right none time stays s =
     (λ is. subst (λ (o : Option Msg). Sound (asks o (trail log p))) (sym right.0.1)
     (sound_asked right.0.0 (trail log p) s)) (λ off. s)
 sound_on (SendFailed q) log p right none time stays s =
-    at_either IsSoundPart (q.0 == p) (with_item (Lost Failing) (part_of log p)) (part_of log p)
+    at_either IsSoundPart (q.0 == p) (with_item (Lost mark.SendFailed) (part_of log p)) (part_of log p)
     (λ is. absurd (stays (eqb-true q.0 p is))) (λ off. s)
 sound_on (Closed q) log p right none time stays s =
-    at_either IsSoundPart (q.0 == p) (with_item (Lost Shutting) (part_of log p)) (part_of log p)
+    at_either IsSoundPart (q.0 == p) (with_item (Lost mark.Closed) (part_of log p)) (part_of log p)
     (λ is. absurd (not_shut log p q.0 right.0.0 (eqb-true q.0 p is) s none right.0.1)) (λ off. s)
 sound_on (Took (Got q piece)) log p right none time stays s =
     at_either IsSoundPart (q.0 == p) (heard_part piece (part_of log p)) (part_of log p)
     (λ is. sound_read (read_stream ((part_of log p).waits ++ piece)) (trail log p) s) (λ off. s)
 sound_on (Took (Gone q)) log p right none time stays s =
-    at_either IsSoundPart (q.0 == p) (with_item (Lost Went) (part_of log p)) (part_of log p)
+    at_either IsSoundPart (q.0 == p) (with_item (Lost mark.Gone) (part_of log p)) (part_of log p)
     (λ is. absurd (stays (eqb-true q.0 p is))) (λ off. s)
 sound_on (Took (Tick n)) log p right none time stays s = record { on = s.on; young = time; whole = s.whole }
 sound_on (Took Ended) log p right none time stays s = s

@@ -21,8 +21,9 @@ use Rattle.cf_peer.specs.declared.mode.Mode.TheVariants.{Following}
 use Rattle.cf_wires.specs.declared.event.Delivery.TheVariants.{Got, Gone, Tick, Ended}
 use Rattle.cf_wires.specs.declared.event.Event.{Event}
 use Rattle.cf_wires.specs.declared.event.Event.TheVariants.{Dialled, NotDialled, Sent, SendFailed, Closed, Took}
+use Rattle.cf_wires.specs.declared.event.Mark.TheVariants as mark
 use Rattle.cf_wires.specs.Log.{Log}
-use Rattle.cf_peer.specs.Trail.{Trail, Part, Said, Refused, Asked, Passed, Lost, Went, Failing, Shutting, called_part, with_item, item_of, item_of_read, hears, hears_fault, part_after, heard_part, spelled, asks, part_of, trail, connected, own}
+use Rattle.cf_peer.specs.Trail.{Trail, Part, Said, Refused, Asked, Passed, Lost, called_part, with_item, item_of, item_of_read, hears, hears_fault, part_after, heard_part, spelled, asks, part_of, trail, connected, own}
 use Rattle.cf_peer.specs.Asking.{NothingOpen, FiltersOpen, blocks_from, claims, given, given_by, hash_claimed, request, fault_of, verdict, counted, MayAskIn}
 use Rattle.cf_headers.proofs.Found.{back_ends}
 use Rattle.cf_sync.specs.Blame.{WasAskedSince}
@@ -219,19 +220,19 @@ is_tried (Dialled q name ∷ log) p filter start stop right was s =
     (λ is u. absurd (was.0 (eqb-true q.0 p is)))
     (λ off u. tried_on (Dialled q name) log p start stop.0 (trail log p) (λ x. x) (is_tried log p filter start stop right was.1 u)) s
 is_tried (NotDialled q name ∷ log) p filter start stop right was s =
-    at_either (IsTriedIn (NotDialled q name) log p start stop.0) (q.0 == p) (with_item (Lost Went) (part_of log p)) (part_of log p)
+    at_either (IsTriedIn (NotDialled q name) log p start stop.0) (q.0 == p) (with_item (Lost mark.NotDialled) (part_of log p)) (part_of log p)
     (λ is u. absurd (false≢true u.0))
     (λ off u. tried_on (NotDialled q name) log p start stop.0 (trail log p) (λ x. x) (is_tried log p filter start stop right was u)) s
 is_tried (SendFailed q ∷ log) p filter start stop right was s =
-    at_either (IsTriedIn (SendFailed q) log p start stop.0) (q.0 == p) (with_item (Lost Failing) (part_of log p)) (part_of log p)
+    at_either (IsTriedIn (SendFailed q) log p start stop.0) (q.0 == p) (with_item (Lost mark.SendFailed) (part_of log p)) (part_of log p)
     (λ is u. absurd (false≢true u.0))
     (λ off u. tried_on (SendFailed q) log p start stop.0 (trail log p) (λ x. x) (is_tried log p filter start stop right was u)) s
 is_tried (Closed q ∷ log) p filter start stop right was s =
-    at_either (IsTriedIn (Closed q) log p start stop.0) (q.0 == p) (with_item (Lost Shutting) (part_of log p)) (part_of log p)
+    at_either (IsTriedIn (Closed q) log p start stop.0) (q.0 == p) (with_item (Lost mark.Closed) (part_of log p)) (part_of log p)
     (λ is u. absurd (false≢true u.0))
     (λ off u. tried_on (Closed q) log p start stop.0 (trail log p) (λ x. x) (is_tried log p filter start stop right.1 was u)) s
 is_tried (Took (Gone q) ∷ log) p filter start stop right was s =
-    at_either (IsTriedIn (Took (Gone q)) log p start stop.0) (q.0 == p) (with_item (Lost Went) (part_of log p)) (part_of log p)
+    at_either (IsTriedIn (Took (Gone q)) log p start stop.0) (q.0 == p) (with_item (Lost mark.Gone) (part_of log p)) (part_of log p)
     (λ is u. absurd (false≢true u.0))
     (λ off u. tried_on (Took (Gone q)) log p start stop.0 (trail log p) (λ x. x) (is_tried log p filter start stop right.1 was u)) s
 is_tried (Took (Tick n) ∷ log) p filter start stop right was s =

@@ -16,10 +16,11 @@ use Rattle.cf_msg.specs.Reading.{message_of}
 use Rattle.cf_wires.specs.declared.event.Delivery.TheVariants.{Got, Gone, Tick, Ended}
 use Rattle.cf_wires.specs.declared.event.Event.{Event}
 use Rattle.cf_wires.specs.declared.event.Event.TheVariants.{Dialled, NotDialled, Sent, SendFailed, Closed, Took}
+use Rattle.cf_wires.specs.declared.event.Mark.TheVariants as mark
 use Rattle.cf_wires.specs.Log.{Log}
 use Rattle.cf_peer.specs.declared.peer.Cause.{Cause}
 use Rattle.cf_peer.specs.declared.peer.Cause.TheVariants.{BadFrame, Malformed, NoFilters, WrongCount, WrongPrevious, OtherFilter, BadBlock, Omits}
-use Rattle.cf_peer.specs.Trail.{Trail, Part, Called, Lost, Went, Failing, Shutting, asks, called_part, connected, failed, fault_in, first, has_filters, heard_part, hears, hears_fault, item_of, item_of_read, has_version, own, part_of, ready, spelled, trail, went_on, with_item}
+use Rattle.cf_peer.specs.Trail.{Trail, Part, Called, Lost, asks, called_part, connected, failed, fault_in, first, has_filters, heard_part, hears, hears_fault, item_of, item_of_read, has_version, own, part_of, ready, spelled, trail, went_on, with_item}
 use Rattle.cf_peer.specs.Asking.{OpenRequest, ClaimsOpen, FiltersOpen, BlockOpen, block_fault, claims, claims_fault, fault_of, filter_fault, hash_claimed, is_answer_of, is_committed, is_this, is_wanted, request, verdict}
 use Rattle.cf_sync.specs.Blame.{HasOmitted}
 use Rattle.cf_sync.proofs.Deaf.{heard_on}
@@ -113,18 +114,18 @@ went_unnamed : (e : Event) (p : ℕ) (part : Part) → IsUnnamed part.trail → 
 went_unnamed (Dialled q name) p part none =
     at_either IsUnnamedPart (q.0 == p) (called_part part) part (λ is no. cc no) (λ off. none)
 went_unnamed (NotDialled q name) p part none =
-    at_either IsUnnamedPart (q.0 == p) (with_item (Lost Went) part) part (λ is. none) (λ off. none)
+    at_either IsUnnamedPart (q.0 == p) (with_item (Lost mark.NotDialled) part) part (λ is. none) (λ off. none)
 went_unnamed (Sent q bytes) p part none =
     at_either IsUnnamedPart (q.0 == p) (record part { trail = asks (spelled bytes) part.trail }) part
     (λ is. asks_unnamed (spelled bytes) part.trail none) (λ off. none)
 went_unnamed (SendFailed q) p part none =
-    at_either IsUnnamedPart (q.0 == p) (with_item (Lost Failing) part) part (λ is. none) (λ off. none)
+    at_either IsUnnamedPart (q.0 == p) (with_item (Lost mark.SendFailed) part) part (λ is. none) (λ off. none)
 went_unnamed (Closed q) p part none =
-    at_either IsUnnamedPart (q.0 == p) (with_item (Lost Shutting) part) part (λ is. none) (λ off. none)
+    at_either IsUnnamedPart (q.0 == p) (with_item (Lost mark.Closed) part) part (λ is. none) (λ off. none)
 went_unnamed (Took (Got q piece)) p part none =
     at_either IsUnnamedPart (q.0 == p) (heard_part piece part) part (λ is. piece_unnamed piece part none) (λ off. none)
 went_unnamed (Took (Gone q)) p part none =
-    at_either IsUnnamedPart (q.0 == p) (with_item (Lost Went) part) part (λ is. none) (λ off. none)
+    at_either IsUnnamedPart (q.0 == p) (with_item (Lost mark.Gone) part) part (λ is. none) (λ off. none)
 went_unnamed (Took (Tick s)) p part none = none
 went_unnamed (Took Ended) p part none = none
 
@@ -169,28 +170,28 @@ omitted_unfailed (Dialled q name ∷ log) p h =
     at_either IsUnfailed (q.0 == p) (called_part (part_of log p)) (part_of log p) (λ is. refl)
     (λ off. omitted_unfailed log p h.1)
 omitted_unfailed (NotDialled q name ∷ log) p h =
-    at_either IsUnfailed (q.0 == p) (with_item (Lost Went) (part_of log p)) (part_of log p)
+    at_either IsUnfailed (q.0 == p) (with_item (Lost mark.NotDialled) (part_of log p)) (part_of log p)
     (λ is. omitted_unfailed log p h) (λ off. omitted_unfailed log p h)
 omitted_unfailed (Sent q bytes ∷ log) p h =
     at_either IsUnfailed (q.0 == p) (record (part_of log p) { trail = asks (spelled bytes) (trail log p) })
     (part_of log p) (λ is. asks_failed (spelled bytes) (trail log p) ∙ omitted_unfailed log p h)
     (λ off. omitted_unfailed log p h)
 omitted_unfailed (SendFailed q ∷ log) p h =
-    at_either IsUnfailed (q.0 == p) (with_item (Lost Failing) (part_of log p)) (part_of log p)
+    at_either IsUnfailed (q.0 == p) (with_item (Lost mark.SendFailed) (part_of log p)) (part_of log p)
     (λ is. absurd (h.0 (eqb-true q.0 p is))) (λ off. omitted_unfailed log p h.1)
 omitted_unfailed (Closed q ∷ log) p (inl now) =
     let unfailed = off_unfailed (trail log p) now.1.there in
-    at_either IsUnfailed (q.0 == p) (with_item (Lost Shutting) (part_of log p)) (part_of log p) (λ is. unfailed)
+    at_either IsUnfailed (q.0 == p) (with_item (Lost mark.Closed) (part_of log p)) (part_of log p) (λ is. unfailed)
     (λ off. unfailed)
 omitted_unfailed (Closed q ∷ log) p (inr before) =
     let unfailed = omitted_unfailed log p before in
-    at_either IsUnfailed (q.0 == p) (with_item (Lost Shutting) (part_of log p)) (part_of log p) (λ is. unfailed)
+    at_either IsUnfailed (q.0 == p) (with_item (Lost mark.Closed) (part_of log p)) (part_of log p) (λ is. unfailed)
     (λ off. unfailed)
 omitted_unfailed (Took (Got q piece) ∷ log) p h =
     at_either IsUnfailed (q.0 == p) (heard_part piece (part_of log p)) (part_of log p)
     (λ is. piece_failed piece (part_of log p) ∙ omitted_unfailed log p h) (λ off. omitted_unfailed log p h)
 omitted_unfailed (Took (Gone q) ∷ log) p h =
-    at_either IsUnfailed (q.0 == p) (with_item (Lost Went) (part_of log p)) (part_of log p)
+    at_either IsUnfailed (q.0 == p) (with_item (Lost mark.Gone) (part_of log p)) (part_of log p)
     (λ is. omitted_unfailed log p h) (λ off. omitted_unfailed log p h)
 omitted_unfailed (Took (Tick s) ∷ log) p h = omitted_unfailed log p h
 omitted_unfailed (Took Ended ∷ log) p h = omitted_unfailed log p h
@@ -210,26 +211,26 @@ omitted_cut_off (Dialled q name ∷ log) p h =
     at_either IsCutOff (q.0 == p) (called_part (part_of log p)) (part_of log p)
     (λ is. absurd (h.0 (eqb-true q.0 p is))) (λ off. omitted_cut_off log p h.1)
 omitted_cut_off (NotDialled q name ∷ log) p h =
-    at_either IsCutOff (q.0 == p) (with_item (Lost Went) (part_of log p)) (part_of log p)
+    at_either IsCutOff (q.0 == p) (with_item (Lost mark.NotDialled) (part_of log p)) (part_of log p)
     (λ is. refl) (λ off. omitted_cut_off log p h)
 omitted_cut_off (Sent q bytes ∷ log) p h =
     at_either IsCutOff (q.0 == p) (record (part_of log p) { trail = asks (spelled bytes) (trail log p) })
     (part_of log p) (λ is. asks_connected (spelled bytes) (trail log p) ∙ omitted_cut_off log p h)
     (λ off. omitted_cut_off log p h)
 omitted_cut_off (SendFailed q ∷ log) p h =
-    at_either IsCutOff (q.0 == p) (with_item (Lost Failing) (part_of log p)) (part_of log p) (λ is. refl)
+    at_either IsCutOff (q.0 == p) (with_item (Lost mark.SendFailed) (part_of log p)) (part_of log p) (λ is. refl)
     (λ off. omitted_cut_off log p h.1)
 omitted_cut_off (Closed q ∷ log) p (inl now) =
-    at_either IsCutOff (q.0 == p) (with_item (Lost Shutting) (part_of log p)) (part_of log p) (λ is. refl)
+    at_either IsCutOff (q.0 == p) (with_item (Lost mark.Closed) (part_of log p)) (part_of log p) (λ is. refl)
     (λ off. absurd (false≢true (sym off ∙ eq-eqb q.0 p now.0)))
 omitted_cut_off (Closed q ∷ log) p (inr before) =
-    at_either IsCutOff (q.0 == p) (with_item (Lost Shutting) (part_of log p)) (part_of log p) (λ is. refl)
+    at_either IsCutOff (q.0 == p) (with_item (Lost mark.Closed) (part_of log p)) (part_of log p) (λ is. refl)
     (λ off. omitted_cut_off log p before)
 omitted_cut_off (Took (Got q piece) ∷ log) p h =
     at_either IsCutOff (q.0 == p) (heard_part piece (part_of log p)) (part_of log p)
     (λ is. heard_on piece (part_of log p) ∙ omitted_cut_off log p h) (λ off. omitted_cut_off log p h)
 omitted_cut_off (Took (Gone q) ∷ log) p h =
-    at_either IsCutOff (q.0 == p) (with_item (Lost Went) (part_of log p)) (part_of log p)
+    at_either IsCutOff (q.0 == p) (with_item (Lost mark.Gone) (part_of log p)) (part_of log p)
     (λ is. refl) (λ off. omitted_cut_off log p h)
 omitted_cut_off (Took (Tick s) ∷ log) p h = omitted_cut_off log p h
 omitted_cut_off (Took Ended ∷ log) p h = omitted_cut_off log p h

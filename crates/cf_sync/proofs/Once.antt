@@ -15,9 +15,10 @@ use Rattle.cf_msg.specs.Reading.{message_of}
 use Rattle.cf_wires.specs.declared.event.Delivery.TheVariants.{Got, Gone, Tick, Ended}
 use Rattle.cf_wires.specs.declared.event.Event.{Event}
 use Rattle.cf_wires.specs.declared.event.Event.TheVariants.{Dialled, NotDialled, Sent, SendFailed, Closed, Took}
+use Rattle.cf_wires.specs.declared.event.Mark.TheVariants as mark
 use Rattle.cf_wires.specs.Log.{Log}
 use Rattle.cf_peer.specs.declared.mode.Mode.TheVariants.{Following}
-use Rattle.cf_peer.specs.Trail.{Trail, Part, Said, Asked, Lost, Went, Failing, Shutting, called_part, with_item, item_of, item_of_read, hears, hears_fault, part_after, heard_part, spelled, asks, part_of, trail, connected, own}
+use Rattle.cf_peer.specs.Trail.{Trail, Part, Said, Asked, Lost, called_part, with_item, item_of, item_of_read, hears, hears_fault, part_after, heard_part, spelled, asks, part_of, trail, connected, own}
 use Rattle.cf_peer.specs.Asking.{OpenRequest, NothingOpen, HeadersOpen, ClaimsOpen, FiltersOpen, BlockOpen, PingOpen, request, request_for, request_after, filter_of, claims_asked, filters_asked, is_wanted, is_committed, is_answer_of, block_entry, fault_of, verdict, counts, counted, fetched, fetched_by}
 use Rattle.cf_sync.specs.Fetching.{RightlyIn, IsConnected, IsFetched, IsFetchedHash, IsWanted, IsFilterOpen, IsBlockOpen, MaySendIn, filters_open, blocks_open, blocks_in}
 use Rattle.cf_sync.proofs.Entries.{at_either}
@@ -203,16 +204,16 @@ module _ (what : OpenRequest → List Hash) (none : (block : Hash) → IsIn bloc
   stood (Dialled q name) log p block right st =
       at_either (Before (Dialled q name) log p block) (q.0 == p) (called_part (part_of log p)) (part_of log p) (λ is s. absurd (none block s.1)) (λ off s. inl s) st
   stood (NotDialled q name) log p block right st =
-      at_either (Before (NotDialled q name) log p block) (q.0 == p) (with_item (Lost Went) (part_of log p)) (part_of log p) (λ is s. absurd (false≢true s.0)) (λ off s. inl s) st
+      at_either (Before (NotDialled q name) log p block) (q.0 == p) (with_item (Lost mark.NotDialled) (part_of log p)) (part_of log p) (λ is s. absurd (false≢true s.0)) (λ off s. inl s) st
   stood (SendFailed q) log p block right st =
-      at_either (Before (SendFailed q) log p block) (q.0 == p) (with_item (Lost Failing) (part_of log p)) (part_of log p) (λ is s. absurd (false≢true s.0)) (λ off s. inl s) st
+      at_either (Before (SendFailed q) log p block) (q.0 == p) (with_item (Lost mark.SendFailed) (part_of log p)) (part_of log p) (λ is s. absurd (false≢true s.0)) (λ off s. inl s) st
   stood (Closed q) log p block right st =
-      at_either (Before (Closed q) log p block) (q.0 == p) (with_item (Lost Shutting) (part_of log p)) (part_of log p) (λ is s. absurd (false≢true s.0)) (λ off s. inl s) st
+      at_either (Before (Closed q) log p block) (q.0 == p) (with_item (Lost mark.Closed) (part_of log p)) (part_of log p) (λ is s. absurd (false≢true s.0)) (λ off s. inl s) st
   stood (Took (Got q piece)) log p block right st =
       at_either (Before (Took (Got q piece)) log p block) (q.0 == p) (heard_part piece (part_of log p)) (part_of log p)
       (λ is s. inl (in_read (read_stream ((part_of log p).waits ++ piece)) (trail log p) block s)) (λ off s. inl s) st
   stood (Took (Gone q)) log p block right st =
-      at_either (Before (Took (Gone q)) log p block) (q.0 == p) (with_item (Lost Went) (part_of log p)) (part_of log p) (λ is s. absurd (false≢true s.0)) (λ off s. inl s) st
+      at_either (Before (Took (Gone q)) log p block) (q.0 == p) (with_item (Lost mark.Gone) (part_of log p)) (part_of log p) (λ is s. absurd (false≢true s.0)) (λ off s. inl s) st
   stood (Took (Tick n)) log p block right st = inl st
   stood (Took Ended) log p block right st = inl st
   stood (Sent q bytes) log p block right st =

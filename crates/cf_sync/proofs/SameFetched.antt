@@ -8,8 +8,9 @@ use Rattle.cf_msg.specs.declared.msg.Msg.TheVariants.{GetData}
 use Rattle.cf_wires.specs.declared.event.Delivery.TheVariants.{Got, Gone, Tick, Ended}
 use Rattle.cf_wires.specs.declared.event.Event.{Event}
 use Rattle.cf_wires.specs.declared.event.Event.TheVariants.{Dialled, NotDialled, Sent, SendFailed, Closed, Took}
+use Rattle.cf_wires.specs.declared.event.Mark.TheVariants as mark
 use Rattle.cf_wires.specs.Log.{Log}
-use Rattle.cf_peer.specs.Trail.{Trail, Part, Lost, Went, Failing, Shutting, called_part, with_item, heard_part, spelled, asks, part_of, trail}
+use Rattle.cf_peer.specs.Trail.{Trail, Part, Lost, called_part, with_item, heard_part, spelled, asks, part_of, trail}
 use Rattle.cf_peer.specs.Asking.{counted, fetched}
 use Rattle.cf_sync.specs.Fetching.{IsFetched, IsFetchedHash, IsSameFetched, IsNoPiece, IsWanted}
 use Rattle.cf_sync.proofs.Entries.{at_either}
@@ -27,14 +28,14 @@ HasSame t part = fetched (counted part.trail) ≡ fetched (counted t)
 
 pub no_piece_brings : (e : Event) (log : Log) → IsNoPiece e → IsSameFetched (e ∷ log) log
 no_piece_brings (Dialled q name) log is p = at_either (HasSame (trail log p)) (q.0 == p) (called_part (part_of log p)) (part_of log p) (λ is. refl) (λ off. refl)
-no_piece_brings (NotDialled q name) log is p = at_either (HasSame (trail log p)) (q.0 == p) (with_item (Lost Went) (part_of log p)) (part_of log p) (λ is. refl) (λ off. refl)
+no_piece_brings (NotDialled q name) log is p = at_either (HasSame (trail log p)) (q.0 == p) (with_item (Lost mark.NotDialled) (part_of log p)) (part_of log p) (λ is. refl) (λ off. refl)
 no_piece_brings (Sent q bytes) log is p =
     at_either (HasSame (trail log p)) (q.0 == p) (record (part_of log p) { trail = asks (spelled bytes) (trail log p) }) (part_of log p)
     (λ is. sent_brings_none (spelled bytes) (trail log p)) (λ off. refl)
-no_piece_brings (SendFailed q) log is p = at_either (HasSame (trail log p)) (q.0 == p) (with_item (Lost Failing) (part_of log p)) (part_of log p) (λ is. refl) (λ off. refl)
-no_piece_brings (Closed q) log is p = at_either (HasSame (trail log p)) (q.0 == p) (with_item (Lost Shutting) (part_of log p)) (part_of log p) (λ is. refl) (λ off. refl)
+no_piece_brings (SendFailed q) log is p = at_either (HasSame (trail log p)) (q.0 == p) (with_item (Lost mark.SendFailed) (part_of log p)) (part_of log p) (λ is. refl) (λ off. refl)
+no_piece_brings (Closed q) log is p = at_either (HasSame (trail log p)) (q.0 == p) (with_item (Lost mark.Closed) (part_of log p)) (part_of log p) (λ is. refl) (λ off. refl)
 no_piece_brings (Took (Got q piece)) log is p = absurd is
-no_piece_brings (Took (Gone q)) log is p = at_either (HasSame (trail log p)) (q.0 == p) (with_item (Lost Went) (part_of log p)) (part_of log p) (λ is. refl) (λ off. refl)
+no_piece_brings (Took (Gone q)) log is p = at_either (HasSame (trail log p)) (q.0 == p) (with_item (Lost mark.Gone) (part_of log p)) (part_of log p) (λ is. refl) (λ off. refl)
 no_piece_brings (Took (Tick s)) log is p = refl
 no_piece_brings (Took Ended) log is p = refl
 

@@ -18,8 +18,9 @@ use Rattle.cf_msg.specs.Reading.{message_of}
 use Rattle.cf_msg.proofs.Table.{carried}
 use Rattle.cf_wires.specs.declared.event.Delivery.TheVariants.{Got, Gone, Tick, Ended}
 use Rattle.cf_wires.specs.declared.event.Event.TheVariants.{Dialled, NotDialled, Sent, SendFailed, Closed, Took}
+use Rattle.cf_wires.specs.declared.event.Mark.TheVariants as mark
 use Rattle.cf_wires.specs.Log.{Log}
-use Rattle.cf_peer.specs.Trail.{Trail, Part, Called, Said, Refused, Asked, Passed, Lost, Went, Failing, Shutting, called_part, with_item, item_of, item_of_read, hears, hears_fault, part_after, heard_part, spelled, asks, part_of, trail}
+use Rattle.cf_peer.specs.Trail.{Trail, Part, Called, Said, Refused, Asked, Passed, Lost, called_part, with_item, item_of, item_of_read, hears, hears_fault, part_after, heard_part, spelled, asks, part_of, trail}
 use Rattle.cf_peer.specs.Asking.{HasSaid}
 use Rattle.cf_sync.specs.Fetching.{AreBytes}
 use Rattle.cf_sync.proofs.Entries.{at_either}
@@ -95,19 +96,19 @@ of_bytes [] p h = record { waits = λ i. omega arith; all = tt }
 of_bytes (Dialled q name ∷ log) p h = let before = of_bytes log p h in
     at_either OfBytes (q.0 == p) (called_part (part_of log p)) (part_of log p) (λ is. record { waits = λ i. omega arith; all = before.all }) (λ off. before)
 of_bytes (NotDialled q name ∷ log) p h = let before = of_bytes log p h in
-    at_either OfBytes (q.0 == p) (with_item (Lost Went) (part_of log p)) (part_of log p) (λ is. record { waits = before.waits; all = before.all }) (λ off. before)
+    at_either OfBytes (q.0 == p) (with_item (Lost mark.NotDialled) (part_of log p)) (part_of log p) (λ is. record { waits = before.waits; all = before.all }) (λ off. before)
 of_bytes (Sent q bytes ∷ log) p h = let before = of_bytes log p h in
     at_either OfBytes (q.0 == p) (record (part_of log p) { trail = asks (spelled bytes) (trail log p) }) (part_of log p)
     (λ is. record { waits = before.waits; all = asks_spelled (spelled bytes) (trail log p) before.all }) (λ off. before)
 of_bytes (SendFailed q ∷ log) p h = let before = of_bytes log p h in
-    at_either OfBytes (q.0 == p) (with_item (Lost Failing) (part_of log p)) (part_of log p) (λ is. record { waits = before.waits; all = before.all }) (λ off. before)
+    at_either OfBytes (q.0 == p) (with_item (Lost mark.SendFailed) (part_of log p)) (part_of log p) (λ is. record { waits = before.waits; all = before.all }) (λ off. before)
 of_bytes (Closed q ∷ log) p h = let before = of_bytes log p h in
-    at_either OfBytes (q.0 == p) (with_item (Lost Shutting) (part_of log p)) (part_of log p) (λ is. record { waits = before.waits; all = before.all }) (λ off. before)
+    at_either OfBytes (q.0 == p) (with_item (Lost mark.Closed) (part_of log p)) (part_of log p) (λ is. record { waits = before.waits; all = before.all }) (λ off. before)
 of_bytes (Took (Got q piece) ∷ log) p h = let before = of_bytes log p h.1 in
     at_either OfBytes (q.0 == p) (heard_part piece (part_of log p)) (part_of log p)
     (λ is. read_bytes ((part_of log p).waits ++ piece) (trail log p) (bytes_both (part_of log p).waits piece before.waits h.0) before.all) (λ off. before)
 of_bytes (Took (Gone q) ∷ log) p h = let before = of_bytes log p h in
-    at_either OfBytes (q.0 == p) (with_item (Lost Went) (part_of log p)) (part_of log p) (λ is. record { waits = before.waits; all = before.all }) (λ off. before)
+    at_either OfBytes (q.0 == p) (with_item (Lost mark.Gone) (part_of log p)) (part_of log p) (λ is. record { waits = before.waits; all = before.all }) (λ off. before)
 of_bytes (Took (Tick s) ∷ log) p h = let before = of_bytes log p h in record { waits = before.waits; all = before.all }
 of_bytes (Took Ended ∷ log) p h = of_bytes log p h
 

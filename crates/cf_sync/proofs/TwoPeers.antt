@@ -31,11 +31,12 @@ use Rattle.cf_msg.specs.declared.msg.Msg.{Msg}
 use Rattle.cf_msg.specs.declared.msg.Msg.TheVariants.{Verack, Block as BlockMessage, Cfheaders, Cfilter}
 use Rattle.cf_wires.specs.declared.event.Delivery.TheVariants.{Got}
 use Rattle.cf_wires.specs.declared.event.Event.TheVariants.{Dialled, Sent, Took, Closed}
+use Rattle.cf_wires.specs.declared.event.Mark.TheVariants as mark
 use Rattle.cf_peer.specs.declared.mode.Mode.TheVariants.{Once}
 use Rattle.cf_peer.specs.Acts.{bytes_of}
 use Rattle.cf_peer.specs.Asking.{OpenRequest, is_spare, NothingOpen, ClaimsOpen, FiltersOpen, claims_asked, filters_asked, filter_of, claims, claims_after, claims_fault, filter_fault, fault_of, request_after, is_idle, given, given_by, HasHeader, IsFree, IsRange, request, is_committed, is_open, verdict, counted, lists, fetched, HasSaid, MayAsk, SameUse}
 use Rattle.cf_wires.specs.Log.{Log}
-use Rattle.cf_peer.specs.Trail.{Trail, Part, Called, Said, Asked, called_part, heard_part, spelled, asks, part_of, trail, connected, ready, own, is_heard_out, longer_of, ends_by, fault_in, first, Lost, Shutting, with_item, is_heard_out_in}
+use Rattle.cf_peer.specs.Trail.{Trail, Part, Called, Said, Asked, called_part, heard_part, spelled, asks, part_of, trail, connected, ready, own, is_heard_out, longer_of, ends_by, fault_in, first, Lost, with_item, is_heard_out_in}
 use Rattle.cf_sync.specs.Example.{only_tx, only_header, only_block, only_hash, chain_of_one, honest_peer, liar, genesis_hash, no_stop, our_version, its_version, false_version, question, its_headers, false_headers, its_block, log_1, log_2, log_3, log_4, log_5, log_6, log_7, log_8, log_9, log_10, log_11, log_12, log_13, log_14, log_15, log_16, log_17, log_18, run_of_two, cleared_run, only_filter, only_filter_hash, genesis_filter_header, ask_claims, its_claims, ask_filter, its_filter}
 use Rattle.cf_sync.specs.Fetching.{IsQuiet, IsBusy, AreBytes, IsFetched, IsConnected, Rightly, counted_part, IsBest, IsDisputed, IsFetchedHash, IsScanOver, IsSettled, RightlyIn}
 use Rattle.cf_sync.proofs.Alone.{IsNoneFetching, none_filters}
@@ -199,7 +200,7 @@ none_passes (Sent q bytes ∷ log) k a b h =
 none_passes (Took (Got q piece) ∷ log) k a b h =
     ap (λ (x : Bool). if x then heard_part piece (part_of log k) else part_of log k) (other_number q.0 k a b h.0) ∙ none_passes log k a b h.1
 none_passes (Closed q ∷ log) k a b h =
-    ap (λ (x : Bool). if x then with_item (Lost Shutting) (part_of log k) else part_of log k) (other_number q.0 k a b h.0) ∙ none_passes log k a b h.1
+    ap (λ (x : Bool). if x then with_item (Lost mark.Closed) (part_of log k) else part_of log k) (other_number q.0 k a b h.0) ∙ none_passes log k a b h.1
 none_passes (e ∷ log) k a b h = absurd h
 
 pub all_of_two : AreOfTwo run_of_two
