@@ -129,7 +129,7 @@ fn perform_close<W: Wires>(
 }
 
 // Does one act, unless its peer's failed send is still to be told.
-fn perform_one<W: Wires>(
+fn perform_act<W: Wires>(
     alloc: Global,
     wires: &mut W,
     act: &Act,
@@ -160,7 +160,7 @@ fn perform_one<W: Wires>(
 }
 
 // Does acts in order.
-fn perform<W: Wires>(
+fn perform_acts<W: Wires>(
     alloc: Global,
     wires: &mut W,
     acts: &[Act],
@@ -179,7 +179,7 @@ fn perform<W: Wires>(
         (run_state (W.told wires.new) (W.faults wires.new) (W.script wires.new) (W.keeps wires.new) progress.new) }
 {
     for act in acts {
-        perform_one(alloc, wires, act, progress)?;
+        perform_act(alloc, wires, act, progress)?;
     }
     Ok(())
 }
@@ -211,7 +211,7 @@ fn settle<W: Wires, H: HeaderStore, M: Matcher>(
     while let Some(p) = progress.next_pending() {
         progress.note_told(p);
         let acts = client.send_failed(p)?;
-        perform(alloc, wires, &acts, progress)?;
+        perform_acts(alloc, wires, &acts, progress)?;
     }
     Ok(())
 }
@@ -242,7 +242,7 @@ fn carry_out<W: Wires, H: HeaderStore, M: Matcher>(
         (run_state (W.told wires.old) (W.faults wires.old) (W.script wires.old) (W.keeps wires.old) progress.old)
         (run_state (W.told wires.new) (W.faults wires.new) (W.script wires.new) (W.keeps wires.new) progress.new) }
 {
-    perform(alloc, wires, acts, progress)?;
+    perform_acts(alloc, wires, acts, progress)?;
     settle(alloc, wires, client, progress)?;
     Ok(())
 }

@@ -5,20 +5,20 @@ use Rattle.cf_run.proofs.over.carry_out.Goals as goal
 
 pub returns-clause-holds : goal.returns-clause-holds
 returns-clause-holds g c = λ called log answers doing ticked.
-    c.in_ok-settle.ensures.holds called (after c.args.acts.now log) answers.stand (c.in_ok-perform.ensures.doing (rule_by c.args.client.now) called log answers.allowed doing) ticked
+    c.in_ok-settle.ensures.holds called (after c.args.acts.now log) answers.stand (c.in_ok-perform_acts.ensures.doing (rule_by c.args.client.now) called log answers.allowed doing) ticked
 
 pub returns-clause-performs : goal.returns-clause-performs
-returns-clause-performs g c = performs_then c.in_ok-perform.ensures.performs c.in_ok-settle.ensures.performs
+returns-clause-performs g c = performs_then c.in_ok-perform_acts.ensures.performs c.in_ok-settle.ensures.performs
 
 pub returns-clause-versions : goal.returns-clause-versions
 returns-clause-versions g c = λ called log answers doing tells has.
-    c.in_ok-settle.ensures.versions called (after c.args.acts.now log) answers.stand (c.in_ok-perform.ensures.doing (rule_by c.args.client.now) called log answers.allowed doing)
-    (c.in_ok-perform.ensures.versions (greeting_by c.args.client.now) tells has)
+    c.in_ok-settle.ensures.versions called (after c.args.acts.now log) answers.stand (c.in_ok-perform_acts.ensures.doing (rule_by c.args.client.now) called log answers.allowed doing)
+    (c.in_ok-perform_acts.ensures.versions (greeting_by c.args.client.now) tells has)
 
 pub returns-in_err-settle-clause-versions : goal.returns-in_err-settle-clause-versions
 returns-in_err-settle-clause-versions g c = λ called log answers doing tells has.
-    c.in_err-settle.ensures.versions called (after c.args.acts.now log) answers.stand (c.in_ok-perform.ensures.doing (rule_by c.args.client.now) called log answers.allowed doing)
-    (c.in_ok-perform.ensures.versions (greeting_by c.args.client.now) tells has)
+    c.in_err-settle.ensures.versions called (after c.args.acts.now log) answers.stand (c.in_ok-perform_acts.ensures.doing (rule_by c.args.client.now) called log answers.allowed doing)
+    (c.in_ok-perform_acts.ensures.versions (greeting_by c.args.client.now) tells has)
 
-pub returns-in_err-perform-clause-versions : goal.returns-in_err-perform-clause-versions
-returns-in_err-perform-clause-versions g c = λ called log answers doing tells has. c.in_err-perform.ensures.versions (greeting_by c.args.client.now) tells has
+pub returns-in_err-perform_acts-clause-versions : goal.returns-in_err-perform_acts-clause-versions
+returns-in_err-perform_acts-clause-versions g c = λ called log answers doing tells has. c.in_err-perform_acts.ensures.versions (greeting_by c.args.client.now) tells has

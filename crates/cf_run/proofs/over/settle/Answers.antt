@@ -43,25 +43,25 @@ loop-p-preserved g c = record {
       let noted = subst (λ (x : Progress). Doing rule c.deref.result.now x called next (g.W.Wires.told c.loop-p.wires)) {x = record c.loop-p.progress { sends = set c.loop-p.progress.sends c.in-Some.p.0 Known }} (sym c.note_told.ensures.told) begun in
       let same = c.in_ok-acts.ensures.rule in
       let allowed = subst (λ (acts : List Act). Allowed (rule_by c.send_failed.new.self) acts next) (sym c.deref.ensures.value) a.allowed in
-      let done = c.in_ok-perform.ensures.doing (rule_by c.send_failed.new.self) called next allowed (doing_rule same noted) in
+      let done = c.in_ok-perform_acts.ensures.doing (rule_by c.send_failed.new.self) called next allowed (doing_rule same noted) in
       record {
         planned = after c.in_ok-acts.acts.items next;
         reflects = a.stand;
         ticked = ticked_then c.in_ok-acts.acts.items p planned w.planned same a.allowed w.ticked;
-        doing = subst (λ (acts : List Act). Doing (rule_by c.send_failed.new.self) [] c.perform.new.progress called (after acts next) (g.W.Wires.told c.perform.new.wires)) c.deref.ensures.value done;
+        doing = subst (λ (acts : List Act). Doing (rule_by c.send_failed.new.self) [] c.perform_acts.new.progress called (after acts next) (g.W.Wires.told c.perform_acts.new.wires)) c.deref.ensures.value done;
       };
   versions = λ called planned reflects doing has.
       let p = c.in-Some.p in
       let w = c.loop-p.invariant.waits called planned reflects doing in
       let used = in_count c.loop-p.client [] c.loop-p.progress called w.planned (g.W.Wires.told c.loop-p.wires) p.0 c.in-Some.ensures.some.1 w.reflects w.doing in
       let tells = c.in_ok-acts.ensures.tells w.planned (SendFailed p ∷ w.planned) used w.reflects (cut_for p w.planned) in
-      c.in_ok-perform.ensures.versions (greeting_by c.args.client.now) (acts_tell_so _ _ c.in_ok-acts.acts.items _ c.loop-p.invariant.words c.deref.ensures.value tells)
+      c.in_ok-perform_acts.ensures.versions (greeting_by c.args.client.now) (acts_tell_so _ _ c.in_ok-acts.acts.items _ c.loop-p.invariant.words c.deref.ensures.value tells)
       (c.loop-p.invariant.versions called planned reflects doing has);
   count = c.in_ok-acts.ensures.count ∙ c.loop-p.invariant.count;
   rule = c.in_ok-acts.ensures.rule ∙ c.loop-p.invariant.rule;
   words = c.in_ok-acts.ensures.words ∙ c.loop-p.invariant.words;
   performs = performs_then c.loop-p.invariant.performs
-      (performs_then (noted_performs _ _ _ _ c.loop-p.progress _ (ap (λ (x : Progress). x.closed) c.note_told.ensures.told) c.note_told.ensures.fewer c.loop-p.invariant.performs.runs.step) c.in_ok-perform.ensures.performs);
+      (performs_then (noted_performs _ _ _ _ c.loop-p.progress _ (ap (λ (x : Progress). x.closed) c.note_told.ensures.told) c.note_told.ensures.fewer c.loop-p.invariant.performs.runs.step) c.in_ok-perform_acts.ensures.performs);
 }
 
 pub returns-clause-holds : goal.returns-clause-holds
@@ -71,11 +71,11 @@ returns-clause-holds g c = λ called planned reflects doing ticked.
     all_told c.loop-p.client c.loop-p.progress called w.planned (g.W.Wires.told c.loop-p.wires) c.in_default.ensures.none w.reflects w.doing
     (ticked_told c.loop-p.progress called w.planned (g.W.Wires.told c.loop-p.wires) w.doing now)
 
-pub returns-in_err-perform-clause-versions : goal.returns-in_err-perform-clause-versions
-returns-in_err-perform-clause-versions g c = λ called planned reflects doing has.
+pub returns-in_err-perform_acts-clause-versions : goal.returns-in_err-perform_acts-clause-versions
+returns-in_err-perform_acts-clause-versions g c = λ called planned reflects doing has.
     let p = c.in-Some.p in
     let w = c.loop-p.invariant.waits called planned reflects doing in
     let used = in_count c.loop-p.client [] c.loop-p.progress called w.planned (g.W.Wires.told c.loop-p.wires) p.0 c.in-Some.ensures.some.1 w.reflects w.doing in
     let tells = c.in_ok-acts.ensures.tells w.planned (SendFailed p ∷ w.planned) used w.reflects (cut_for p w.planned) in
-    c.in_err-perform.ensures.versions (greeting_by c.args.client.now) (acts_tell_so _ _ c.in_ok-acts.acts.items _ c.loop-p.invariant.words c.deref.ensures.value tells)
+    c.in_err-perform_acts.ensures.versions (greeting_by c.args.client.now) (acts_tell_so _ _ c.in_ok-acts.acts.items _ c.loop-p.invariant.words c.deref.ensures.value tells)
     (c.loop-p.invariant.versions called planned reflects doing has)

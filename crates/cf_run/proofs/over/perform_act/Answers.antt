@@ -1,6 +1,6 @@
 use Rattle.std.proofs.Common.{subst}
 use Rattle.cf_place.specs.Places.{ActTells}
-use Rattle.cf_run.proofs.over.perform_one.Goals as goal
+use Rattle.cf_run.proofs.over.perform_act.Goals as goal
 
 pub returns-in_ok-perform_send-in-Send-clause-versions : goal.returns-in_ok-perform_send-in-Send-clause-versions
 returns-in_ok-perform_send-in-Send-clause-versions g c = λ words tells. c.in_ok-perform_send-in-Send.ensures.versions words (subst (ActTells words) c.in-Send.is tells)

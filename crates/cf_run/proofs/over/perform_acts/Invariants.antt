@@ -6,7 +6,7 @@ use Rattle.cf_place.specs.Standing.{Greeting}
 use Rattle.cf_sync.specs.Fetching.{Rule}
 use Rattle.cf_run.specs.Versions.{KeepsGreeting}
 use Rattle.cf_run.specs.Moments.{Doing, ActsLeft, run_state, Performs}
-use Rattle.cf_run.proofs.over.perform.Given as goal
+use Rattle.cf_run.proofs.over.perform_acts.Given as goal
 
 abbrev pub invariant-loop-act : goal.invariant-loop-act
 invariant-loop-act g l = record {
