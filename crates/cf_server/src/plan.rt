@@ -1,5 +1,5 @@
 //! Which replies are planned for a message.
-ghost use Rattle.std.specs.Prelude.{◌≡◌, ◌≤◌, ◌-◌, suc, ◌++◌, ◌∷◌, [], map, length, OnOk, OnErr};
+ghost use Rattle.std.specs.Prelude.{◌≡◌, ◌≤◌, ◌-◌, suc, ◌++◌, map, length, IfSome, OnOk, OnErr};
 ghost use Rattle.std.specs.List.{flat_map, range_with_len};
 ghost use Rattle.cf_chain.specs.{fork_height, most_headers as most_of, range_end as range_end_of};
 ghost use Rattle.cf_server.specs.declared.reply.Reply.TheVariants.{CfilterAt};
@@ -63,12 +63,19 @@ fn plan_for(index: &Index, msg: &Msg, out: &mut Replies) -> Result<(), NoMemory>
             filter,
             start,
             stop,
-        } => plan_cfilters(index, *filter, *start, stop, out),
+        } => plan_cfilters(
+            *start,
+            range_end(index, MAX_FILTERS, *filter, *start, stop),
+            out,
+        ),
         Msg::GetCfheaders {
             filter,
             start,
             stop,
-        } => plan_cfheaders(index, *filter, *start, stop, out),
+        } => {
+            let end = range_end(index, MAX_FILTER_HEADERS, *filter, *start, stop);
+            plan_cfheaders(*start, end, stop, out)
+        }
         Msg::GetCfcheckpt { filter, stop } => plan_cfcheckpt(index, *filter, stop, out),
         _ => Ok(()),
     }
@@ -185,7 +192,8 @@ fn basic_height(index: &Index, filter: u8, stop: &Hash32) -> Option<u32>
 // The height where a range of basic filters ends that may be asked for: it begins no later, and has at most so many
 // heights.
 fn range_end(index: &Index, most: u32, filter: u8, start: u32, stop: &Hash32) -> Option<u32>
-    ensures { result ≡ range_end_of most filter start stop.now index.now }
+    ensures end { result ≡ range_end_of most filter start stop.now index.now }
+    ensures from { IfSome result (λ last. start ≤ last) }
 {
     match basic_height(index, filter, stop) {
         None => None,
@@ -199,19 +207,12 @@ fn range_end(index: &Index, most: u32, filter: u8, start: u32, stop: &Hash32) ->
     }
 }
 
-fn plan_cfilters(
-    index: &Index,
-    filter: u8,
-    start: u32,
-    stop: &Hash32,
-    out: &mut Replies,
-) -> Result<(), NoMemory>
-    ensures ok { OnOk result
-        (out.new ≡ out.old ++ cfilters_plan start (range_end_of 1000 filter start stop.now index.now)) }
-    ensures err { OnErr result
-        (Begun out.old out.new (cfilters_plan start (range_end_of 1000 filter start stop.now index.now))) }
+fn plan_cfilters(start: u32, end: Option<u32>, out: &mut Replies) -> Result<(), NoMemory>
+    requires { IfSome end (λ last. start ≤ last) }
+    ensures ok { OnOk result (out.new ≡ out.old ++ cfilters_plan start end) }
+    ensures err { OnErr result (Begun out.old out.new (cfilters_plan start end)) }
 {
-    match range_end(index, MAX_FILTERS, filter, start, stop) {
+    match end {
         None => Ok(()),
         Some(last) => plan_each_cfilter(start, last, out),
     }
@@ -231,17 +232,15 @@ fn plan_each_cfilter(start: u32, last: u32, out: &mut Replies) -> Result<(), NoM
 }
 
 fn plan_cfheaders(
-    index: &Index,
-    filter: u8,
     start: u32,
+    end: Option<u32>,
     stop: &Hash32,
     out: &mut Replies,
 ) -> Result<(), NoMemory>
-    ensures ok { OnOk result
-        (out.new ≡ out.old ++ cfheaders_plan start (range_end_of 2000 filter start stop.now index.now) stop.now) }
+    ensures ok { OnOk result (out.new ≡ out.old ++ cfheaders_plan start end stop.now) }
     ensures err { OnErr result (out.new ≡ out.old) }
 {
-    match range_end(index, MAX_FILTER_HEADERS, filter, start, stop) {
+    match end {
         None => Ok(()),
         Some(stop_height) => out.push(Reply::CfheadersOf {
             start,
