@@ -5,7 +5,7 @@ ghost use Rattle.cf_wires.specs.{is_real};
 ghost use Rattle.cf_input.specs.Lines.{GivesRead, GivesAfter};
 ghost use Rattle.cf_input.specs.Name.{is_name};
 ghost use Rattle.cf_input.specs.SessionFile.{max_dials, answer_of, dial_of, peer_of, got_of, gone_of, tick_of, delivery_of, taken, line_after, lines_in, session_of};
-ghost use Rattle.cf_input.specs.Sessions.{script_in, AreNamed};
+ghost use Rattle.cf_input.specs.Sessions.{script_in, AddsLine, AreNamed};
 
 use crate::lines::{cut_at, read_hex};
 use crate::number::{is_number, number_within};
@@ -177,11 +177,7 @@ fn add_dial(
 fn take_line(alloc: Global, session: &mut Session, line: &[u8]) -> Result<(), Refused<SessionCause>>
     requires { length session.old.dials.items ≤ max_dials }
     ensures exact { GivesAfter (taken (script_in session.old) line.now) result (script_in session.new) }
-    ensures more { OnOk result (lines_in (script_in session.new) ≡ lines_in (script_in session.old) + 1) }
-    ensures few { OnOk result (length session.new.dials.items ≤ max_dials) }
-    ensures named { OnOk result (AreNamed session.old → AreNamed session.new) }
-    ensures real { OnOk result (list_all is_real session.old.deliveries.items ≡ true
-        → list_all is_real session.new.deliveries.items ≡ true) }
+    ensures adds { OnOk result (AddsLine session.old session.new) }
 {
     let dials = session.dials.len() as u32;
     if let Some((name, answered)) = read_dial(line) {
@@ -207,11 +203,7 @@ fn add_line(alloc: Global, session: &mut Session, line: &[u8]) -> Result<(), Ref
     requires few { length session.old.dials.items ≤ max_dials }
     requires fits { lines_in (script_in session.old) + 1 < 2 ^ 32 }
     ensures exact { GivesAfter (line_after (script_in session.old) line.now) result (script_in session.new) }
-    ensures more { OnOk result (lines_in (script_in session.new) ≡ lines_in (script_in session.old) + 1) }
-    ensures few { OnOk result (length session.new.dials.items ≤ max_dials) }
-    ensures named { OnOk result (AreNamed session.old → AreNamed session.new) }
-    ensures real { OnOk result (list_all is_real session.old.deliveries.items ≡ true
-        → list_all is_real session.new.deliveries.items ≡ true) }
+    ensures adds { OnOk result (AddsLine session.old session.new) }
 {
     let place = (session.dials.len() + session.deliveries.len()) as u32 + 1;
     match take_line(alloc, session, line) {

@@ -23,10 +23,10 @@ loop-rest-preserved c =
     let shorter : length c.cut_at.result.1.now < length c.loop-rest.rest.now = c.cut_at.ensures.shorter some in
     record {
       read = rw (c.cut_at.ensures.rest) (lines_on line_after _ _ _ _ _ (rw c.cut_at.ensures.front at c.in_ok-add_line.ensures.exact) lines);
-      few = c.in_ok-add_line.ensures.few;
-      lines = omega (arith, c.in_ok-add_line.ensures.more, c.loop-rest.invariant.lines);
-      named = c.in_ok-add_line.ensures.named c.loop-rest.invariant.named;
-      real = c.in_ok-add_line.ensures.real c.loop-rest.invariant.real;
+      few = c.in_ok-add_line.ensures.adds.few;
+      lines = omega (arith, c.in_ok-add_line.ensures.adds.more, c.loop-rest.invariant.lines);
+      named = c.in_ok-add_line.ensures.adds.named c.loop-rest.invariant.named;
+      real = c.in_ok-add_line.ensures.adds.real c.loop-rest.invariant.real;
     }
 
 pub returns-then-is_empty-clause-exact : goal.returns-then-is_empty-clause-exact
