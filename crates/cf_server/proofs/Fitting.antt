@@ -1,5 +1,5 @@
 -- What the messages of replies have: fields of the right length, and payloads that fit into a frame.
-use Rattle.std.proofs.Common.{◌≡◌, ℕ, zero, suc, ◌+◌, ◌-◌, ◌*◌, ◌/◌, ◌<◌, ◌≤◌, true, List, [], ◌∷◌, ◌++◌, length, map, take, drop, replicate, Some, refl, sym, ap, ◌∙◌, subst, arith, lit<, lit≤, get_or, slice_get, length-append, length-take}
+use Rattle.std.proofs.Common.{◌≡◌, ℕ, zero, suc, ◌+◌, ◌-◌, ◌*◌, ◌/◌, ◌<◌, ◌≤◌, true, List, [], ◌∷◌, ◌++◌, length, map, take, drop, replicate, Some, refl, sym, ap, ◌∙◌, subst, arith, lit≤, get_or, slice_get, length-append, length-take}
 use Rattle.std.specs.List.{flat_map, AllByRecursion}
 use Rattle.std.specs.FinMap.{empty}
 use Rattle.std.specs.Prelude.{option_map}
@@ -15,8 +15,9 @@ use Rattle.cf_block.specs.declared.tx.Block.{Block}
 use Rattle.cf_block.specs.Output.{Output}
 use Rattle.cf_block.specs.Header.{IsHash, IsHeader, block_hash_of, header_spelling}
 use Rattle.cf_block.specs.Tx.{IsBlock, block_spelling, tx_spelling}
-use Rattle.cf_block.specs.Genesis.{first_block, first_input, first_output, signing_script, paid_script}
-use Rattle.cf_block.proofs.HeaderLaws.{genesis_fits, block_hash_length}
+use Rattle.cf_block.specs.Genesis.{first_block}
+use Rattle.cf_block.proofs.GenesisLaws.{block_is}
+use Rattle.cf_block.proofs.HeaderLaws.{block_hash_length}
 use Rattle.cf_block.proofs.Roots.{length-hash_of}
 use Rattle.cf_msg.specs.declared.msg.Msg.TheVariants.{Headers, Cfilter, Cfheaders, Cfcheckpt}
 use Rattle.cf_msg.specs.Message.{payload_of}
@@ -31,43 +32,20 @@ use Rattle.cf_chain.specs.Heights.{all_blocks, has_hash, block_height}
 use Rattle.cf_chain.specs.Serve.{header_or_zeros, header_before, filters_between, thousands, cfilter_of}
 use Rattle.cf_chain.proofs.Places.{height_within, length-filters_of}
 use Rattle.cf_chain.proofs.Bounds.{txs_longer}
-use Rattle.cf_walk.proofs.GenesisHash.{first_length}
 use Rattle.cf_server.proofs.FilterLength.{length-basic_filter}
 use Rattle.cf_server.proofs.Lists.{all-take, all-drop, all-at, all-map}
 
 -- ---- blocks
-
-first_txs : IsBlock first_block
-unfolding first_block first_input first_output signing_script paid_script
-first_txs = record {
-  header = genesis_fits;
-  some_txs = lit≤ tt;
-  few_txs = lit≤ tt;
-  txs = (
-    record {
-      version = record { sfits = omega arith };
-      some_inputs = lit≤ tt;
-      few_inputs = lit≤ tt;
-      inputs = (record { txid = refl; index = lit< tt; script = lit≤ tt; sequence = lit< tt }, tt);
-      some_outputs = lit≤ tt;
-      few_outputs = lit≤ tt;
-      outputs = (record { value = lit≤ tt; script = lit≤ tt }, tt);
-      lock_time = lit< tt;
-    },
-    tt,
-  );
-  short = omega (arith, first_length);
-}
 
 good_fit : (coins : CoinMap) (blocks : List Block) → AreGoodBlocks coins blocks → AllByRecursion IsBlock blocks
 good_fit coins [] good = tt
 good_fit coins (b ∷ bs) good = (good.0.spelled, good_fit (after_block coins b) bs good.1)
 
 blocks_fit : (blocks : List Block) → IsGoodChain blocks → AllByRecursion IsBlock (all_blocks blocks)
-blocks_fit blocks good = (first_txs, good_fit empty blocks good.each)
+blocks_fit blocks good = (block_is, good_fit empty blocks good.each)
 
 pub block_fits : (blocks : List Block) (height : ℕ) → IsGoodChain blocks → IsBlock (get_or (all_blocks blocks) height first_block)
-block_fits blocks height good = all-at IsBlock (all_blocks blocks) height first_block (blocks_fit blocks good) first_txs
+block_fits blocks height good = all-at IsBlock (all_blocks blocks) height first_block (blocks_fit blocks good) block_is
 
 headers_fit : (blocks : List Block) (start count : ℕ) → IsGoodChain blocks → AllByRecursion IsHeader (take count (drop start (map (λ b. b.header) (all_blocks blocks))))
 headers_fit blocks start count good =
