@@ -4,7 +4,6 @@ ghost use Rattle.cf_demo.specs.declared.unplayed.Unplayed.TheVariants.{NoMemory 
 
 use cf_bytes::NoMemory;
 use cf_make::AtHeight;
-use std::alloc::{AllocError, AllocFailed};
 use thiserror::Error;
 
 /// Why no run was made.
@@ -25,22 +24,6 @@ impl From<NoMemory> for Unplayed {
     ghost from_gives = { λ _ e. e ≡ OutOfMemory };
 
     fn from(_e: NoMemory) -> Unplayed {
-        Unplayed::NoMemory
-    }
-}
-
-impl From<AllocError> for Unplayed {
-    ghost from_gives = { λ _ e. e ≡ OutOfMemory };
-
-    fn from(_e: AllocError) -> Unplayed {
-        Unplayed::NoMemory
-    }
-}
-
-impl<T: Drop> From<AllocFailed<T>> for Unplayed {
-    ghost from_gives = { λ _ e. e ≡ OutOfMemory };
-
-    fn from(_e: AllocFailed<T>) -> Unplayed {
         Unplayed::NoMemory
     }
 }
