@@ -8,11 +8,6 @@ use Rattle.cf_walk.specs.declared.cause.BadBlock.{BadBlock}
 use Rattle.cf_walk.specs.declared.fault.LoadFault.{LoadFault}
 use Rattle.cf_walk.specs.declared.fault.LoadFault.TheVariants as faults
 use Rattle.cf_walk.specs.Files.{blocks_at}
-use Rattle.cf_wires.specs.Wires.{Script}
-use Rattle.cf_input.specs.declared.session.SessionFault.{SessionFault}
-use Rattle.cf_input.specs.declared.watch_file.WatchFileFault.{WatchFileFault}
-use Rattle.cf_input.specs.declared.proof_file.ProofFileFault.{ProofFileFault}
-use Rattle.cf_input.specs.declared.proof_file.Proven.{Proven}
 use Rattle.cf_input.specs.ProofFile.{proof_file_of}
 use Rattle.cf_input.specs.SessionFile.{session_of}
 use Rattle.cf_input.specs.WatchFile.{watch_of}
@@ -45,45 +40,35 @@ pub data Verdict : Type 0 where
   Bad : (which : Which) → (place : ℕ) → (cause : FileCause) → Verdict
   Good : Verdict
 
--- the verdict on a watch file, by what reading it gave
-abbrev pub watch_read : Result (List (List ℕ)) WatchFileFault → Verdict
-watch_read (Ok scripts) = Good
-watch_read (Err fault) = Bad Watch fault.place (OfWatch fault.cause)
+-- the verdict by what reading a file gave: where it is refused, the one for why
+abbrev pub read_verdict : {A F : Type 0} → (F → Verdict) → Result A F → Verdict
+read_verdict refused (Ok read) = Good
+read_verdict refused (Err fault) = refused fault
+
+-- the verdict on a file of at most so many bytes: missing, too big, or by its bytes
+abbrev pub file_verdict : Which → ℕ → (List ℕ → Verdict) → Option (List ℕ) → Verdict
+file_verdict which most judged None = Missing
+file_verdict which most judged (Some bytes) = if nat_lt most (length bytes) then Bad which 0 TooBig else judged bytes
 
 -- what a watch file is judged as: missing, too big, refused with its first bad line and cause, or good
 abbrev pub watch_verdict : Option (List ℕ) → Verdict
-watch_verdict None = Missing
-watch_verdict (Some bytes) = if nat_lt most_watch (length bytes) then Bad Watch 0 TooBig else watch_read (watch_of bytes)
-
--- the verdict on a session file, by what reading it gave
-abbrev pub session_read : Result Script SessionFault → Verdict
-session_read (Ok script) = Good
-session_read (Err fault) = Bad Session fault.place (OfSession fault.cause)
+watch_verdict = file_verdict Watch most_watch (λ bytes. read_verdict (λ fault. Bad Watch fault.place (OfWatch fault.cause)) (watch_of bytes))
 
 -- what a session file is judged as: missing, too big, refused with its first bad line and cause, or good
 abbrev pub session_verdict : Option (List ℕ) → Verdict
-session_verdict None = Missing
-session_verdict (Some bytes) = if nat_lt most_session (length bytes) then Bad Session 0 TooBig else session_read (session_of bytes)
+session_verdict = file_verdict Session most_session (λ bytes. read_verdict (λ fault. Bad Session fault.place (OfSession fault.cause)) (session_of bytes))
 
 -- the verdict on a block file, by what reading it gave
 abbrev pub blocks_read : Result (List Block) BadBlock → Verdict
-blocks_read (Ok blocks) = Good
-blocks_read (Err bad) = Bad Blocks bad.number (OfBlocks bad.cause)
+blocks_read = read_verdict (λ bad. Bad Blocks bad.number (OfBlocks bad.cause))
 
 -- what a file of blocks is judged as: missing, refused with its first bad record and cause, or good
 abbrev pub blocks_verdict : Option (List ℕ) → Verdict
-blocks_verdict None = Missing
-blocks_verdict (Some bytes) = if nat_lt most_blocks (length bytes) then Bad Blocks 0 TooBig else blocks_read (blocks_at bytes)
-
--- the verdict on the file of a proof, by what reading it gave
-abbrev pub proof_read : Result Proven ProofFileFault → Verdict
-proof_read (Ok proven) = Good
-proof_read (Err fault) = Bad Proof fault.place (OfProof fault.cause)
+blocks_verdict = file_verdict Blocks most_blocks (λ bytes. blocks_read (blocks_at bytes))
 
 -- what the file of a proof is judged as: missing, too big, refused with its first bad line and cause, or good
 abbrev pub proof_verdict : Option (List ℕ) → Verdict
-proof_verdict None = Missing
-proof_verdict (Some bytes) = if nat_lt most_proof (length bytes) then Bad Proof 0 TooBig else proof_read (proof_file_of bytes)
+proof_verdict = file_verdict Proof most_proof (λ bytes. read_verdict (λ fault. Bad Proof fault.place (OfProof fault.cause)) (proof_file_of bytes))
 
 -- what reading a file answers: a good one, or the program's answer
 abbrev pub IsReadAs : {X : Type 0} → Verdict → Result X Status → Type 0
