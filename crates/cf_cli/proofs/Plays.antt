@@ -83,7 +83,7 @@ some_same : (a b : Made) → Some a ≡ Some b → a ≡ b
 some_same a b e = cc
 
 -- the log of a tape that plays this script
-pub plays_of : (status : Status) (names : List (List ℕ)) (script : Script) (tape : MemoryWires)
+plays_of : (status : Status) (names : List (List ℕ)) (script : Script) (tape : MemoryWires)
     → Some (made (script_of tape) (failing_of tape)) ≡ Some (made script []) → names ≡ map (λ (d : Dial). d.name) script.dials → HasDialled names (told_of tape)
     → (has_run status ≡ true → IsWhole (length names) (told_of tape)) → Plays status script (log_of tape)
 plays_of status names script tape is_made named dialled whole =
@@ -132,11 +132,11 @@ plays_by : (status : Status) (r : Result Script SessionFault) (script : Script) 
 plays_by status r script log e plays = subst (λ (x : Result Script SessionFault). PlaysSession status x log) (sym e) plays
 
 -- what is told stays the same file
-pub told_so : (o p : Option Named) (name : List ℕ) (script : Script) → o ≡ p → IfSome o (λ m. IfSome (finite.get m name) (λ bytes. session_of bytes ≡ Ok script))
+told_so : (o p : Option Named) (name : List ℕ) (script : Script) → o ≡ p → IfSome o (λ m. IfSome (finite.get m name) (λ bytes. session_of bytes ≡ Ok script))
     → IfSome p (λ m. IfSome (finite.get m name) (λ bytes. session_of bytes ≡ Ok script))
 told_so o p name script same h = subst (λ (x : Option Named). IfSome x (λ m. IfSome (finite.get m name) (λ bytes. session_of bytes ≡ Ok script))) same h
 
-pub told_plays : (o : Option Named) (name : List ℕ) (status : Status) (script : Script) (log : Log)
+told_plays : (o : Option Named) (name : List ℕ) (status : Status) (script : Script) (log : Log)
     → IfSome o (λ m. IfSome (finite.get m name) (λ bytes. session_of bytes ≡ Ok script)) → Plays status script log
     → IfSome o (λ m. IfSome (finite.get m name) (λ bytes. PlaysSession status (session_of bytes) log))
 told_plays None name status script log read plays = tt
@@ -144,6 +144,16 @@ told_plays (Some m) name status script log read plays = held_plays (finite.get m
   held_plays : (held : Option (List ℕ)) → IfSome held (λ bytes. session_of bytes ≡ Ok script) → IfSome held (λ bytes. PlaysSession status (session_of bytes) log)
   held_plays None h = tt
   held_plays (Some bytes) h = plays_by status (session_of bytes) script log h plays
+
+-- a run over a tape that was loaded with the session of this file
+pub loaded_plays : (o p : Option Named) (name : List ℕ) (status : Status) (names : List (List ℕ)) (script : Script) (loaded tape : MemoryWires)
+    → IfSome o (λ m. IfSome (finite.get m name) (λ bytes. session_of bytes ≡ Ok script)) → o ≡ p
+    → Some (made (script_of tape) (failing_of tape)) ≡ Some (made (script_of loaded) (failing_of loaded)) → script_of loaded ≡ script → failing_of loaded ≡ []
+    → names ≡ map (λ (d : Dial). d.name) script.dials → HasDialled names (told_of tape) → (has_run status ≡ true → IsWhole (length names) (told_of tape))
+    → IfSome p (λ m. IfSome (finite.get m name) (λ bytes. PlaysSession status (session_of bytes) (log_of tape)))
+loaded_plays o p name status names script loaded tape read same stays is none named dialled whole =
+    told_plays p name status script (log_of tape) (told_so o p name script same read)
+    (plays_of status names script tape (stays ∙ ap Some (ap (λ (x : Script). made x (failing_of loaded)) is ∙ ap (made script) none)) named dialled whole)
 
 -- where no run is made nothing has passed, and nobody is honest
 early_kept : (status : Status) (recorded trace : Bool) (scripts names : List (List ℕ)) (b : Option (List ℕ)) (log : Log) → has_run status ≡ false → log ≡ [] → KeptOnce status recorded trace scripts names b b log

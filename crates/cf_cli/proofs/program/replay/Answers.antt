@@ -1,11 +1,11 @@
-use Rattle.std.proofs.Common.{false, Some, length, rules, ◌∙◌, ap, subst}
+use Rattle.std.proofs.Common.{false, length, rules, ◌∙◌, ap, subst}
 use Rattle.std.proofs.Math.Facts.{to_z-of_z}
 use Rattle.std.specs.Int.{w64}
 use Rattle.cf_run.specs.Names.{names_in}
 use Rattle.cf_wires.specs.Log.{Told}
-use Rattle.cf_wires.specs.Memory.{log_of, failing_of, told_of}
-use Rattle.cf_wires.specs.Wires.{Script}
-use Rattle.cf_cli.proofs.Plays.{versions_so, unplayed_words, made, plays_of, told_so, told_plays, early_plays, new_tape, same_told, over_watch, watch_there}
+use Rattle.cf_wires.specs.Memory.{log_of, told_of}
+use Rattle.cf_input.specs.Sessions.{script_in}
+use Rattle.cf_cli.proofs.Plays.{versions_so, unplayed_words, early_plays, loaded_plays, new_tape, same_told, over_watch, watch_there}
 use Rattle.cf_cli.proofs.Stays.{early_replayed_in, tape_watch_on}
 use Rattle.cf_cli.specs.Following.{TalliedOn}
 use Rattle.cf_cli.specs.Theorem.{Tallied}
@@ -51,25 +51,21 @@ returns-in-Err-load_session-clause-plays g c =
 
 pub returns-then-follow-clause-plays : goal.returns-then-follow-clause-plays
 returns-then-follow-clause-plays g c =
-    let s = c.in-Ok-load_session.session in
-    let script : Script = record { dials = s.dials.items; deliveries = s.deliveries.items } in
-    told_plays (g.F.Files.files c.args.files.now) c.args.session.now c.follow_on_tape.result script (log_of c.follow_on_tape.new.wires)
-    (told_so (g.F.Files.files c.load_watch.new.files) (g.F.Files.files c.args.files.now) c.args.session.now script c.load_watch.ensures.same c.in-Ok-load_session.ensures.script)
-    (plays_of c.follow_on_tape.result (names_in c.as_slice-names.result.now) script c.follow_on_tape.new.wires
-    (c.follow_on_tape.ensures.same ∙ ap Some (ap (λ (x : Script). made x (failing_of c.load.new.self)) c.load.ensures.script ∙ ap (made script) (c.load.ensures.failing ∙ c.requires.failing)))
-    (ap names_in c.as_slice-names.ensures.value ∙ c.in-Ok-load_session.ensures.named)
-    c.follow_on_tape.ensures.dialled c.follow_on_tape.ensures.tallied.tallied.whole)
+    let script = script_in c.in-Ok-load_session.session in
+    loaded_plays (g.F.Files.files c.load_watch.new.files) (g.F.Files.files c.args.files.now) c.args.session.now
+    c.follow_on_tape.result (names_in c.as_slice-names.result.now) script c.load.new.self c.follow_on_tape.new.wires
+    c.in-Ok-load_session.ensures.script c.load_watch.ensures.same c.follow_on_tape.ensures.same c.load.ensures.script
+    (c.load.ensures.failing ∙ c.requires.failing) (ap names_in c.as_slice-names.ensures.value ∙ c.in-Ok-load_session.ensures.named)
+    c.follow_on_tape.ensures.dialled c.follow_on_tape.ensures.tallied.tallied.whole
 
 pub returns-clause-plays : goal.returns-clause-plays
 returns-clause-plays g c =
-    let s = c.in-Ok-load_session.session in
-    let script : Script = record { dials = s.dials.items; deliveries = s.deliveries.items } in
-    told_plays (g.F.Files.files c.args.files.now) c.args.session.now c.run_once.result script (log_of c.run_once.new.wires)
-    (told_so (g.F.Files.files c.load_watch.new.files) (g.F.Files.files c.args.files.now) c.args.session.now script c.load_watch.ensures.same c.in-Ok-load_session.ensures.script)
-    (plays_of c.run_once.result (names_in c.as_slice-names.result.now) script c.run_once.new.wires
-    (c.run_once.ensures.same ∙ ap Some (ap (λ (x : Script). made x (failing_of c.load.new.self)) c.load.ensures.script ∙ ap (made script) (c.load.ensures.failing ∙ c.requires.failing)))
-    (ap names_in c.as_slice-names.ensures.value ∙ c.in-Ok-load_session.ensures.named)
-    c.run_once.ensures.dialled c.run_once.ensures.tallied.whole)
+    let script = script_in c.in-Ok-load_session.session in
+    loaded_plays (g.F.Files.files c.load_watch.new.files) (g.F.Files.files c.args.files.now) c.args.session.now
+    c.run_once.result (names_in c.as_slice-names.result.now) script c.load.new.self c.run_once.new.wires
+    c.in-Ok-load_session.ensures.script c.load_watch.ensures.same c.run_once.ensures.same c.load.ensures.script
+    (c.load.ensures.failing ∙ c.requires.failing) (ap names_in c.as_slice-names.ensures.value ∙ c.in-Ok-load_session.ensures.named)
+    c.run_once.ensures.dialled c.run_once.ensures.tallied.whole
 
 pub returns-in-Err-clause-versions : goal.returns-in-Err-clause-versions
 returns-in-Err-clause-versions g c = unplayed_words _ _ c.requires.log
