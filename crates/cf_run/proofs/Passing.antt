@@ -1,5 +1,5 @@
 -- What a dial leaves of the client, and what a whole run leaves of its wires, put together.
-use Rattle.std.proofs.Common.{◌≡◌, inl, ℕ, ◌+◌, ◌<◌, ◌≤◌, Bool, List, [], ◌∷◌, ◌++◌, Option, refl, sym, ◌∙◌, ap, subst, arith}
+use Rattle.std.proofs.Common.{◌≡◌, inl, ℕ, ℤ, ◌+◌, ◌<◌, ◌≤◌, Bool, List, [], ◌∷◌, ◌++◌, Option, refl, sym, ◌∙◌, ap, subst, arith}
 use Rattle.std.specs.List.{All}
 use Rattle.std.specs.Prelude.{IsSome}
 use Rattle.cf_bytes.specs.Outside.{HasRisen}
@@ -23,13 +23,13 @@ use Rattle.cf_client.specs.Stands.{Answers, Reflects, rule_by, greeting_by}
 use Rattle.cf_peer.specs.declared.mode.Mode.TheVariants.{Following}
 use Rattle.cf_sync.specs.Fetching.{MayTake}
 use Rattle.cf_run.specs.Run.{AreBytesOf, Course, HasDialled, HasNames, NoFailure}
-use Rattle.cf_run.specs.Moments.{Doing, HoldsOver, IsUnused, RunState, Runs, Performs, Dials, IsInStep, Stopped, EndsTurns, TakesTurns, run_state}
+use Rattle.cf_run.specs.Moments.{Doing, HoldsOver, IsUnused, RunState, Runs, Performs, Dials, IsInStep, Stopped, EndsTurns, TakesTurns, run_at}
 use Rattle.cf_run.specs.Versions.{HasGreeting, KeepsGreeting}
 use Rattle.cf_run.specs.Whole.{AreNewWires, EndsWithin, LeavesWires}
 use Rattle.cf_run.proofs.Courses.{course_on, told_runs, failed_runs, failures_blamed, dialled_one, missed_one, dials_then, dials_alone}
 use Rattle.cf_run.proofs.Dialling.{none_dialled, none_named, dialled_on}
 use Rattle.cf_run.proofs.Turns.{dial_doing, doing_rule, holds_same, may_held, no_peers, starts, took_doing, words_same}
-use Rattle.cf_run.proofs.Versions.{acts_tell_so, entry_keeps, has_so, new_words, words_then}
+use Rattle.cf_run.proofs.Versions.{acts_tell_so, entry_keeps, has_so, new_words, words_so, words_then}
 
 -- ---- one dial
 
@@ -130,8 +130,7 @@ pub passes_dials : {W H M : Type 0} {g : Ghosts H} {j : Judges M} {told : W → 
     → (HoldsOver c p [] (told before) → KeepsGreeting (greeting_by c) (told before) (told after))
     → (HasNames [] (told before) → HasDialled names (told after)) → (told after).tally.taken ≡ 0
     → (told after).tally.ended ≡ 0
-    → Runs (run_state (told before) (faults before) (script before) (keeps before) p)
-    (run_state (told after) (faults after) (script after) (keeps after) q)
+    → Runs (run_at told faults script keeps before p) (run_at told faults script keeps after q)
     → Passes told faults script keeps (greeting_by c) names 0 before after
 passes_dials {told = told} {before = before} {p = p} c reflects unused new versions first taken ended runs = record {
   versions = versions (starts c p (told before) reflects unused new) (new_words (greeting_by c) (told before) new);
@@ -143,13 +142,13 @@ passes_dials {told = told} {before = before} {p = p} c reflects unused new versi
   course = runs.course;
 }
 
--- and no turn was taken
+-- and no turn was taken, by a client of these words
 pub passes_untaken : {W : Type 0} {told : W → Told} {faults : W → ℕ} {script : W → Option Made} {keeps : W → Bool}
-    {names : List (List ℕ)} {before after : W} (v words : Greeting) (turns : ℕ)
-    → v ≡ words → Passes told faults script keeps v names 0 before after
-    → Passes told faults script keeps words names turns before after
-passes_untaken {told = told} {after = after} v words turns same dials = record {
-  versions = has_so v words (told after) same dials.versions;
+    {names : List (List ℕ)} {before after : W} {v : Greeting} {x y : ℤ} {n : ℕ} (turns : ℕ)
+    → v ≡ record { moment = x; number = n } → x ≡ y → Passes told faults script keeps v names 0 before after
+    → Passes told faults script keeps (record { moment = y; number = n }) names turns before after
+passes_untaken {told = told} {after = after} {v = v} {x = x} {y = y} {n = n} turns is same dials = record {
+  versions = has_so v (record { moment = y; number = n }) (told after) (words_so v x y n is same) dials.versions;
   first = dials.first;
   most = omega (arith, dials.most);
   once = dials.once;
@@ -160,14 +159,15 @@ passes_untaken {told = told} {after = after} v words turns same dials = record {
 
 -- or turns were
 pub passes_turns : {W : Type 0} {told : W → Told} {faults : W → ℕ} {script : W → Option Made} {keeps : W → Bool}
-    {names : List (List ℕ)} {before now after : W} {p q : Progress} (v w words : Greeting) (turns : ℕ)
-    → v ≡ words → w ≡ v → Passes told faults script keeps v names 0 before now → KeepsGreeting w (told now) (told after)
-    → TakesTurns turns (run_state (told now) (faults now) (script now) (keeps now) p)
-    (run_state (told after) (faults after) (script after) (keeps after) q)
-    → Passes told faults script keeps words names turns before after
+    {names : List (List ℕ)} {before now after : W} {p q : Progress} {v w : Greeting} {x y : ℤ} {n : ℕ} (turns : ℕ)
+    → v ≡ record { moment = x; number = n } → x ≡ y → w ≡ v → Passes told faults script keeps v names 0 before now
+    → KeepsGreeting w (told now) (told after)
+    → TakesTurns turns (run_at told faults script keeps now p) (run_at told faults script keeps after q)
+    → Passes told faults script keeps (record { moment = y; number = n }) names turns before after
 passes_turns {told = told} {faults = faults} {script = script} {names = names} {before = before} {now = now}
-    {after = after} v w words turns first same dials keeps takes = record {
-      versions = words_then v w words (told now) (told after) first same dials.versions keeps;
+    {after = after} {v = v} {w = w} {x = x} {y = y} {n = n} turns is first same dials keeps takes = record {
+      versions = words_then v w (record { moment = y; number = n }) (told now) (told after) (words_so v x y n is first) same
+          dials.versions keeps;
       first = dialled_on names (told now) (told after) dials.first takes.same;
       most = takes.most;
       once = takes.once;

@@ -154,6 +154,10 @@ pub record RunState : Type 0 where
 abbrev pub run_state : Told → ℕ → Option Made → Bool → Progress → RunState
 run_state told faults script keeps progress = record { told = told; faults = faults; script = script; keeps = keeps; progress = progress }
 
+-- the moment of these wires, of which this is told
+abbrev pub run_at : {W : Type 0} → (W → Told) → (W → ℕ) → (W → Option Made) → (W → Bool) → W → Progress → RunState
+run_at told faults script keeps wires progress = run_state (told wires) (faults wires) (script wires) (keeps wires) progress
+
 -- from one moment to a later one, whatever was answered
 pub record Runs (a b : RunState) : Type 0 where
   pub course : Course a.told b.told a.faults b.faults a.script b.script

@@ -4,13 +4,11 @@ use Rattle.std.proofs.lemmas.List.{length-map}
 use Rattle.std.proofs.lemmas.Result.{err_from_is_err_and}
 use Rattle.std.specs.Int.{w64}
 use Rattle.std.specs.Prelude.{IfSome}
-use Rattle.cf_client.specs.Stands.{greeting_by}
 use Rattle.cf_sync.specs.Fetching.{Rule}
 use Rattle.cf_run.specs.Names.{names_in}
 use Rattle.cf_run.specs.Whole.{IsOutcome}
 use Rattle.cf_run.proofs.Passing.{ends_within, passes_none, passes_turns, passes_untaken}
 use Rattle.cf_run.proofs.Puts.{all_some, all_told, gives_up, is_short, none_before, none_put}
-use Rattle.cf_run.proofs.Versions.{words_so}
 use Rattle.cf_run.proofs.follow.follow_all.Goals as goal
 
 pub returns-clause-outcome : goal.returns-clause-outcome
@@ -33,39 +31,26 @@ returns-in_err-client-clause-passes g c = passes_none g.W.Wires.told g.W.Wires.f
 
 pub returns-in_err-progress-clause-passes : goal.returns-in_err-progress-clause-passes
 returns-in_err-progress-clause-passes g c =
-    let words = words_so _ _ c.args.moment c.args.nonce c.in_ok-client.ensures.words
-    (to_z-of_z {w = w64} {z = c.args.moment} (search rules)) in
-    passes_untaken (greeting_by c.in_ok-client.client) _ c.args.turns words c.in_err-progress.ensures.passes
+    passes_untaken c.args.turns c.in_ok-client.ensures.words (to_z-of_z {w = w64} {z = c.args.moment} (search rules))
+    c.in_err-progress.ensures.passes
 
 pub returns-in_err-end-clause-passes : goal.returns-in_err-end-clause-passes
 returns-in_err-end-clause-passes g c =
-    let words = words_so _ _ c.args.moment c.args.nonce c.in_ok-client.ensures.words
-    (to_z-of_z {w = w64} {z = c.args.moment} (search rules)) in
     let d = c.in_ok-progress.ensures in
-    let e = c.in_err-end.ensures in
-    passes_turns (greeting_by c.in_ok-client.client)
-    (greeting_by c.dial_first.new.client) _ c.args.turns words d.words d.passes
-    (e.versions (names_in c.args.names.now) d.holds) e.takes
+    passes_turns c.args.turns c.in_ok-client.ensures.words (to_z-of_z {w = w64} {z = c.args.moment} (search rules)) d.words d.passes
+    (c.in_err-end.ensures.versions (names_in c.args.names.now) d.holds) c.in_err-end.ensures.takes
 
 pub returns-in_err-outcome-clause-passes : goal.returns-in_err-outcome-clause-passes
 returns-in_err-outcome-clause-passes g c =
-    let words = words_so _ _ c.args.moment c.args.nonce c.in_ok-client.ensures.words
-    (to_z-of_z {w = w64} {z = c.args.moment} (search rules)) in
     let d = c.in_ok-progress.ensures in
-    let e = c.in_ok-end.ensures in
-    passes_turns (greeting_by c.in_ok-client.client)
-    (greeting_by c.dial_first.new.client) _ c.args.turns words d.words d.passes
-    (e.versions (names_in c.args.names.now) d.holds) e.takes
+    passes_turns c.args.turns c.in_ok-client.ensures.words (to_z-of_z {w = w64} {z = c.args.moment} (search rules)) d.words d.passes
+    (c.in_ok-end.ensures.versions (names_in c.args.names.now) d.holds) c.in_ok-end.ensures.takes
 
 pub returns-clause-passes : goal.returns-clause-passes
 returns-clause-passes g c =
-    let words = words_so _ _ c.args.moment c.args.nonce c.in_ok-client.ensures.words
-    (to_z-of_z {w = w64} {z = c.args.moment} (search rules)) in
     let d = c.in_ok-progress.ensures in
-    let e = c.in_ok-end.ensures in
-    passes_turns (greeting_by c.in_ok-client.client)
-    (greeting_by c.dial_first.new.client) _ c.args.turns words d.words d.passes
-    (e.versions (names_in c.args.names.now) d.holds) e.takes
+    passes_turns c.args.turns c.in_ok-client.ensures.words (to_z-of_z {w = w64} {z = c.args.moment} (search rules)) d.words d.passes
+    (c.in_ok-end.ensures.versions (names_in c.args.names.now) d.holds) c.in_ok-end.ensures.takes
 
 pub returns-clause-put : goal.returns-clause-put
 returns-clause-put g c =

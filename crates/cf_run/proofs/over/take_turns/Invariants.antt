@@ -1,5 +1,5 @@
 use Rattle.std.proofs.Common.{◌≡◌, List, ℕ}
-use Rattle.cf_run.specs.Moments.{HoldsOver, TookTurns, run_state}
+use Rattle.cf_run.specs.Moments.{HoldsOver, TookTurns, run_at}
 use Rattle.cf_client.specs.Stands.{rule_by, greeting_by}
 use Rattle.cf_run.specs.Versions.{KeepsGreeting}
 use Rattle.cf_run.proofs.over.take_turns.Given as goal
@@ -10,7 +10,6 @@ invariant-loop-turn g l = record {
   versions : (called : List (List ℕ)) → HoldsOver l.fn.client l.fn.progress called (g.W.Wires.told l.fn.wires) → KeepsGreeting (greeting_by l.fn.client) (g.W.Wires.told l.fn.wires) (g.W.Wires.told l.wires);
   rule : rule_by l.client ≡ rule_by l.fn.client;
   words : greeting_by l.client ≡ greeting_by l.fn.client;
-  took : TookTurns l._turn
-      (run_state (g.W.Wires.told l.fn.wires) (g.W.Wires.faults l.fn.wires) (g.W.Wires.script l.fn.wires) (g.W.Wires.keeps l.fn.wires) l.fn.progress)
-      (run_state (g.W.Wires.told l.wires) (g.W.Wires.faults l.wires) (g.W.Wires.script l.wires) (g.W.Wires.keeps l.wires) l.progress);
+  took : TookTurns l._turn (run_at g.W.Wires.told g.W.Wires.faults g.W.Wires.script g.W.Wires.keeps l.fn.wires l.fn.progress)
+      (run_at g.W.Wires.told g.W.Wires.faults g.W.Wires.script g.W.Wires.keeps l.wires l.progress);
 }
