@@ -43,6 +43,7 @@ files_stay {F} {files} {faults} {reads} {opens} {parts} {writes} {command} {stat
   unchanged = λ off. refl;
   asked = unasked reads opens parts writes command f;
   fault = λ is. absurd (well is);
+  fine = λ ne. refl;
 }
 
 -- new wires, which nothing passes
@@ -68,13 +69,14 @@ tape_stays {moment} {nonce} {command} {status} {tape} new = record {
 pub unrun_files : {F : Type 0} {files : F → Option Named} {faults : F → ℕ} {reads : Reads F} {opens : Opens F} {parts : Parts F} {writes : Writes F}
     {watch : List ℕ} {file : Option (List ℕ)} {log : Option Log} {status : Status} {before after : F}
     → IfSome (files before) (λ m. IsJudged (watch_verdict (finite.get m watch)) status) → IsOfFile status → files after ≡ files before
-    → (status ≡ FileFault → HasRisen (faults before) (faults after)) → IsRead reads watch before after
+    → (status ≡ FileFault → HasRisen (faults before) (faults after)) → (status ≢ FileFault → faults after ≡ faults before) → IsRead reads watch before after
     → RunsFiles files faults reads opens parts writes watch file log status before after
-unrun_files {F} {files} {faults} {reads} {opens} {parts} {writes} {watch} {file} {log} {status} {before} {after} judged is same fault read = record {
+unrun_files {F} {files} {faults} {reads} {opens} {parts} {writes} {watch} {file} {log} {status} {before} {after} judged is same fault fine read = record {
   judged = judged;
   asked = (after, inr (after, read, refl), unwritten writes file after);
   records = early_records status file log (files before) (files after) is same;
   fault = fault;
+  fine = fine;
 }
 
 -- files of a run over a good watch file
@@ -82,12 +84,14 @@ pub run_files : {F : Type 0} {files : F → Option Named} {faults : F → ℕ} {
     {watch : List ℕ} {file : Option (List ℕ)} {log : Option Log} {status : Status} {before after : F} (between : F)
     → IfSome (files before) (λ m. watch_verdict (finite.get m watch) ≡ Good) → files between ≡ files before → faults between ≡ faults before → IsRead reads watch before between
     → was_unbegun status (is_some file) ≡ false → IsAtMostWritten writes file between after → Records status file log (files between) (files after)
-    → (status ≡ FileFault → HasRisen (faults between) (faults after)) → RunsFiles files faults reads opens parts writes watch file log status before after
-run_files {F} {files} {faults} {reads} {opens} {parts} {writes} {watch} {file} {log} {status} {before} {after} between good same kept read begun written records fault = record {
+    → (status ≡ FileFault → HasRisen (faults between) (faults after)) → (status ≢ FileFault → faults after ≡ faults between)
+    → RunsFiles files faults reads opens parts writes watch file log status before after
+run_files {F} {files} {faults} {reads} {opens} {parts} {writes} {watch} {file} {log} {status} {before} {after} between good same kept read begun written records fault fine = record {
   judged = judged_once_begun (files before) watch status (is_some file) good begun;
   asked = (between, inr (between, read, refl), written);
   records = records_from status file log (files before) (files between) (files after) same records;
   fault = λ is. subst (λ (n : ℕ). HasRisen n (faults after)) kept (fault is);
+  fine = λ ne. fine ne ∙ kept;
 }
 
 -- new wires, which no run passes

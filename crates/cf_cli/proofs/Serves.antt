@@ -1,14 +1,21 @@
 -- What serving says of the answer and of the link.
-use Rattle.std.proofs.Common.{◌≡◌, ℕ, ◌+◌, ◌≤◌, List, Result, Ok, Err, sym, subst}
+use Rattle.std.proofs.Common.{◌≡◌, ◌≢◌, ℕ, ◌+◌, ◌≤◌, List, Result, Ok, Err, sym, subst}
 use Rattle.std.specs.Prelude.{OnOk}
 use Rattle.cf_link.specs.Links.{LinkTold}
-use Rattle.cf_link.specs.Serving.{Serves}
+use Rattle.cf_link.specs.Serving.{Serves, Counts}
 use Rattle.cf_bytes.specs.declared.memory.Refused.{Refused}
 use Rattle.cf_bytes.specs.declared.memory.Refused.TheVariants.{No, NoMemory as OutOfMemory}
 use Rattle.cf_bytes.specs.declared.outside.Failed.{Failed}
 use Rattle.cf_conn.specs.Told.{ConnTold}
 use Rattle.cf_answers.specs.declared.status.Status.{Status}
+use Rattle.cf_answers.specs.declared.status.Status.TheVariants.{LinkFault}
 use Rattle.cf_cli.specs.Serving.{listening, ServesAt, MayServe, ServesChain, answer_of}
+
+-- where it wasn't the link that failed, its count of faults stays
+pub counts_fine : (answer : Result (Unit {0}) (Refused Failed)) (status : Status) (before after : ℕ) → status ≡ answer_of answer → Counts answer before after → status ≢ LinkFault → after ≡ before
+counts_fine (Ok done) status before after is same ne = same
+counts_fine (Err (No failed)) status before after is risen ne = absurd (ne is)
+counts_fine (Err OutOfMemory) status before after is same ne = same
 
 -- two links tell the same
 pub same_told : (a b : LinkTold) → a.addresses ≡ b.addresses → a.accepted ≡ b.accepted → a.owed ≡ b.owed → a.conns ≡ b.conns → a.given ≡ b.given → a ≡ b

@@ -39,14 +39,15 @@ pub record IsNewPlayed (played : Played) : Type 0 where
 
 -- ---- what becomes of the files and the wires of `sync` and of `follow`
 
--- The files: the watch file is judged first, it alone is read, what becomes of them goes by the answer and by the log, and where they are to blame their count
--- of faults has risen.
+-- The files: the watch file is judged first, it alone is read, what becomes of them goes by the answer and by the log, and their count of faults has risen
+-- where they are to blame, and stays with any other answer.
 pub record RunsFiles {F : Type 0} (files : F → Option Named) (faults : F → ℕ) (reads : Reads F) (opens : Opens F) (parts : Parts F) (writes : Writes F)
     (watch : List ℕ) (file : Option (List ℕ)) (log : Option Log) (status : Status) (before after : F) : Type 0 where
   pub judged : IfSome (files before) (λ m. IsJudged (watch_verdict (finite.get m watch)) status)
   pub asked : AsksFor reads opens parts writes (Whole watch ∷ []) file before after
   pub records : Records status file log (files before) (files after)
   pub fault : status ≡ FileFault → HasRisen (faults before) (faults after)
+  pub fine : status ≢ FileFault → faults after ≡ faults before
 
 -- The wires: the names were dialled in order, each version that was sent tells these words, where a call has failed their count of faults has risen, they keep
 -- their log no more than before unless it is to be recorded, and what they tell stays where no run was begun.
@@ -66,13 +67,14 @@ pub record CountsOn (goes_on : Bool) (status : Status) (before after : ℕ) : Ty
 
 -- ---- what becomes of it, by the command that the words ask for, and its answer
 
--- The files: a command that writes none changes none, what is asked of them is what the command asks, and where they are to blame their count of faults has
--- risen.
+-- The files: a command that writes none changes none, what is asked of them is what the command asks, and their count of faults has risen where they are to
+-- blame, and stays with any other answer.
 pub record UsesFiles {F : Type 0} (files : F → Option Named) (faults : F → ℕ) (reads : Reads F) (opens : Opens F) (parts : Parts F) (writes : Writes F)
     (command : Option Command) (status : Status) (before after : F) : Type 0 where
   pub unchanged : may_write command ≡ false → files after ≡ files before
   pub asked : AreAsked reads opens parts writes command before after
   pub fault : status ≡ FileFault → HasRisen (faults before) (faults after)
+  pub fine : status ≢ FileFault → faults after ≡ faults before
 
 -- The wires: each version that was sent tells the moment and the random number, where a call has failed their count of faults has risen, what they tell
 -- stays unless the command may dial, and they keep their log no more than before unless it asks for a record.
@@ -92,10 +94,11 @@ pub record UsesTape (moment : ℤ) (nonce : ℕ) (command : Option Command) (sta
 pub record UsesPlayed (command : Option Command) (before after : Played) : Type 0 where
   pub unshown : may_show command ≡ false → after ≡ before
 
--- the link: it stays unless the command may serve, and where it is to blame its count of faults has risen
+-- the link: it stays unless the command may serve, and its count of faults has risen where it is to blame, and stays with any other answer
 pub record UsesLink {L : Type 0} (faults : L → ℕ) (command : Option Command) (status : Status) (before after : L) : Type 0 where
   pub unserved : may_serve command status ≡ false → after ≡ before
   pub fault : status ≡ LinkFault → HasRisen (faults before) (faults after)
+  pub fine : status ≢ LinkFault → faults after ≡ faults before
 
 -- The sink: nothing is written to it unless the command may say something, and how often it has failed is told by the answer, and by whether the command goes
 -- on once it has.

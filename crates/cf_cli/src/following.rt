@@ -1,5 +1,5 @@
 //! A run of the client that follows over any wires, and what is written of it.
-ghost use Rattle.std.specs.Prelude.{◌≡◌, ◌≤◌, ℕ, Bool, [], length, IfOk, IfSome, None, is_some, false};
+ghost use Rattle.std.specs.Prelude.{◌≡◌, ◌≢◌, ◌≤◌, ℕ, Bool, [], length, IfOk, IfSome, None, is_some, false};
 ghost use Rattle.cf_bytes.specs.{IsAtMostWritten, HasRisen};
 ghost use Rattle.cf_run.specs.{names_in, HasDialled, HasFailed, HasGreeting, LeavesWires};
 ghost use Rattle.cf_offline.specs.{CountsOut};
@@ -102,6 +102,7 @@ pub(crate) fn follow_and_record<F: Files, W: Wires, M: Matcher + Drop, O: Sink>(
     ensures unkept { is_some log_file.now ≡ false → W.keeps wires.new ≡ W.keeps wires.old }
     ensures records { Records result log_file.now (W.told wires.new).log (F.files files.old) (F.files files.new) }
     ensures file_fault { result ≡ Status.FileFault → HasRisen (F.faults files.old) (F.faults files.new) }
+    ensures file_fine { result ≢ Status.FileFault → F.faults files.new ≡ F.faults files.old }
     ensures counts { CountsOn (is_some log_file.now) result (O.faults out.old) (O.faults out.new) }
     ensures begun { was_unbegun result (is_some log_file.now) ≡ false }
     ensures written { IsAtMostWritten F.writes log_file.now files.old files.new }

@@ -1,5 +1,5 @@
 //! A run of the client over any wires that ends once nothing is open, and what is written of it.
-ghost use Rattle.std.specs.Prelude.{◌≡◌, ◌≤◌, [], length, IfOk, IfSome, is_some, true, false};
+ghost use Rattle.std.specs.Prelude.{◌≡◌, ◌≢◌, ◌≤◌, [], length, IfOk, IfSome, is_some, true, false};
 ghost use Rattle.cf_bytes.specs.{IsAtMostWritten, HasRisen};
 ghost use Rattle.cf_run.specs.{names_in, HasDialled, HasFailed, HasGreeting};
 ghost use Rattle.cf_offline.specs.{CountsOut};
@@ -78,6 +78,7 @@ pub(crate) fn run_once<F: Files, W: Wires, M: Matcher + Drop, O: Sink>(
     ensures unkept { is_some log_file.now ≡ false → W.keeps wires.new ≡ W.keeps wires.old }
     ensures records { Records result log_file.now (W.told wires.new).log (F.files files.old) (F.files files.new) }
     ensures file_fault { result ≡ Status.FileFault → HasRisen (F.faults files.old) (F.faults files.new) }
+    ensures file_fine { result ≢ Status.FileFault → F.faults files.new ≡ F.faults files.old }
     ensures counts { CountsOut result (O.faults out.old) (O.faults out.new) }
     ensures unwritten { has_run result ≡ false → O.written out.new ≡ O.written out.old }
     ensures begun { was_unbegun result (is_some log_file.now) ≡ false }

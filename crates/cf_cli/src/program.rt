@@ -6,6 +6,7 @@ ghost use Rattle.cf_run.specs.{AreNewWires, names_in, IsOfGreeting};
 ghost use Rattle.cf_wires.specs.{log_of, failing_of, finished_of, told_of};
 ghost use Rattle.cf_input.specs.{session_of, watch_of, command_of, HasFewPeers};
 ghost use Rattle.cf_cli.specs.Asking.{AsksFor};
+ghost use Rattle.cf_loading.specs.Verdicts.{CountsFile};
 ghost use Rattle.cf_loading.specs.{Whole, IsJudged, IsOfFile, Good, and_then, watch_verdict, session_verdict};
 ghost use Rattle.cf_offline.specs.{CountsOut};
 ghost use Rattle.cf_answers.specs.{has_run, was_refused, was_unbegun};
@@ -69,6 +70,7 @@ fn replay<F: Files, O: Sink>(
     ensures files { AsksFor F.reads F.opens F.parts F.writes (Whole watch.now ∷ Whole session.now ∷ []) None
         files.old files.new }
     ensures file_fault { result ≡ Status.FileFault → HasRisen (F.faults files.old) (F.faults files.new) }
+    ensures file_fine { result ≢ Status.FileFault → F.faults files.new ≡ F.faults files.old }
     ensures counts { CountsOut result (O.faults out.old) (O.faults out.new) }
     ensures unwritten { has_run result ≡ false → O.written out.new ≡ O.written out.old }
     ensures unplayed { was_refused result ≡ true → told_of tape.new ≡ told_of tape.old }
@@ -136,6 +138,7 @@ fn set_up<R: Wait + Threads + Copy + Drop + Send + 'static, F: Files, K: Spawner
         (λ m. IfSome (finite.get m watch.now) (λ bytes. watch_of bytes ≡ Ok both.0))) }
     ensures same { F.files files.new ≡ F.files files.old }
     ensures fault { IsErrOf result Status.FileFault → HasRisen (F.faults files.old) (F.faults files.new) }
+    ensures count { CountsFile result (F.faults files.old) (F.faults files.new) }
     ensures kept { OnOk result (F.faults files.new ≡ F.faults files.old) }
     ensures only { IfErr result IsOfFile }
     ensures files { IsRead F.reads watch.now files.old files.new }
@@ -410,7 +413,8 @@ where
 /// of `wires` is kept only where a record is asked for. `make` puts its records into its file; of the other commands
 /// only `sync` and `follow` with a record change a file. Of the files at most those that the command names are read,
 /// the watch file first and each once, a file of blocks by parts, and after that at most the one that it writes is
-/// written, once.
+/// written, once. Where a call of `files` has failed the answer is `FileFault`, and where one of `link` has `LinkFault`:
+/// with any other answer their counts of faults stay.
 ///
 /// How each peer stands once `sync`, `follow` or `replay` has made its run is put into `ends`, in the order of their
 /// numbers. Where no run was begun, and with each other command, `ends` stays as it is handed in.

@@ -1,5 +1,5 @@
 //! The server of a file of blocks.
-ghost use Rattle.std.specs.Prelude.{◌≡◌, ◌+◌, true, false, IfSome, OnOk};
+ghost use Rattle.std.specs.Prelude.{◌≡◌, ◌≢◌, ◌+◌, true, false, IfSome, OnOk};
 ghost use Rattle.std.specs.FinMap as finite;
 ghost use Rattle.cf_bytes.specs.{HasRisen};
 ghost use Rattle.cf_conn.specs.{IsReadByParts};
@@ -77,6 +77,7 @@ where
         (link_now L.addresses L.accepted L.owed L.conns L.given link.old)
         (link_now L.addresses L.accepted L.owed L.conns L.given link.new) }
     ensures fault { result ≡ Status.LinkFault → HasRisen (L.faults link.old) (L.faults link.new) }
+    ensures fine { result ≢ Status.LinkFault → L.faults link.new ≡ L.faults link.old }
 {
     let tip = index.tip();
     match Server::new(alloc, index, moment, nonce) {
@@ -120,6 +121,7 @@ where
         (link_now L.addresses L.accepted L.owed L.conns L.given link.old)
         (link_now L.addresses L.accepted L.owed L.conns L.given link.new) }
     ensures fault { result ≡ Status.LinkFault → HasRisen (L.faults link.old) (L.faults link.new) }
+    ensures fine { result ≢ Status.LinkFault → L.faults link.new ≡ L.faults link.old }
 {
     let tip = index.tip();
     match GrowingServer::new(rt, alloc, index, joins, moment, nonce) {
@@ -163,6 +165,7 @@ where
         (link_now L.addresses L.accepted L.owed L.conns L.given link.old)
         (link_now L.addresses L.accepted L.owed L.conns L.given link.new) }
     ensures fault { result ≡ Status.LinkFault → HasRisen (L.faults link.old) (L.faults link.new) }
+    ensures fine { result ≢ Status.LinkFault → L.faults link.new ≡ L.faults link.old }
 {
     let tip_hash = chain.tip_hash();
     let Ok(index) = Index::of(&rt, alloc, chain) else {
@@ -229,7 +232,9 @@ where
     ensures unchanged { F.files files.new ≡ F.files files.old }
     ensures files { IsReadByParts F.opens F.parts file.now files.old files.new }
     ensures file_fault { result ≡ Status.FileFault → HasRisen (F.faults files.old) (F.faults files.new) }
+    ensures file_fine { result ≢ Status.FileFault → F.faults files.new ≡ F.faults files.old }
     ensures link_fault { result ≡ Status.LinkFault → HasRisen (L.faults link.old) (L.faults link.new) }
+    ensures link_fine { result ≢ Status.LinkFault → L.faults link.new ≡ L.faults link.old }
 {
     match load_chain(alloc, files, file) {
         Ok(chain) => serve_chain(

@@ -1,4 +1,5 @@
 pub mod Asking
+pub mod Counting
 pub mod FilterTexts
 pub mod ProofTexts
 pub mod Scans

@@ -1,5 +1,5 @@
 //! A made chain, written to a block file.
-ghost use Rattle.std.specs.Prelude.{◌≡◌, Some};
+ghost use Rattle.std.specs.Prelude.{◌≡◌, ◌≢◌, Some};
 ghost use Rattle.cf_bytes.specs.{IsAtMostWritten, HasRisen};
 ghost use Rattle.cf_offline.specs.Making.{IsMaking};
 
@@ -26,6 +26,7 @@ pub fn make<F: Files>(
 ) -> Status
     ensures made { IsMaking result witness seed blocks file.now (F.files files.old) (F.files files.new) }
     ensures file_fault { result ≡ Status.FileFault → HasRisen (F.faults files.old) (F.faults files.new) }
+    ensures file_fine { result ≢ Status.FileFault → F.faults files.new ≡ F.faults files.old }
     ensures files { IsAtMostWritten F.writes (Some file.now) files.old files.new }
 {
     if blocks > HEIGHT_LIMIT {

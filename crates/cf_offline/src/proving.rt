@@ -1,5 +1,5 @@
 //! The commands over proofs of transactions.
-ghost use Rattle.std.specs.Prelude.{◌≡◌, ◌<◌, ◌≤◌, false, length, IfOk, IfSome, option_map, string_bytes};
+ghost use Rattle.std.specs.Prelude.{◌≡◌, ◌≢◌, ◌<◌, ◌≤◌, false, length, IfOk, IfSome, option_map, string_bytes};
 ghost use Rattle.std.specs.FinMap as finite;
 ghost use Rattle.hex.specs.Hex.{IsBytes};
 ghost use Rattle.cf_block.specs.{tx_spelling};
@@ -106,6 +106,7 @@ pub fn prove<F: Files, O: Sink>(
     ensures files { IsReadByParts F.opens F.parts file.now files.old files.new }
     ensures unwritten { has_run result ≡ false → O.written out.new ≡ O.written out.old }
     ensures file_fault { result ≡ Status.FileFault → HasRisen (F.faults files.old) (F.faults files.new) }
+    ensures file_fine { result ≢ Status.FileFault → F.faults files.new ≡ F.faults files.old }
     ensures counts { CountsOut result (O.faults out.old) (O.faults out.new) }
 {
     match load_chain(alloc, files, file) {
@@ -162,6 +163,7 @@ fn check_file<F: Files, O: Sink>(alloc: Global, files: &mut F, file: &str, out: 
     ensures files { IsRead F.reads file.now files.old files.new }
     ensures unwritten { has_run result ≡ false → O.written out.new ≡ O.written out.old }
     ensures file_fault { result ≡ Status.FileFault → HasRisen (F.faults files.old) (F.faults files.new) }
+    ensures file_fine { result ≢ Status.FileFault → F.faults files.new ≡ F.faults files.old }
     ensures counts { CountsOut result (O.faults out.old) (O.faults out.new) }
 {
     match load_proof(alloc, files, file) {
@@ -182,6 +184,7 @@ pub fn check<F: Files, O: Sink>(alloc: Global, files: &mut F, file: &str, out: &
     ensures files { IsRead F.reads file.now files.old files.new }
     ensures unwritten { has_run result ≡ false → O.written out.new ≡ O.written out.old }
     ensures file_fault { result ≡ Status.FileFault → HasRisen (F.faults files.old) (F.faults files.new) }
+    ensures file_fine { result ≢ Status.FileFault → F.faults files.new ≡ F.faults files.old }
     ensures counts { CountsOut result (O.faults out.old) (O.faults out.new) }
 {
     check_file(alloc, files, file, out)

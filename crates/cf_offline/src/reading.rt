@@ -1,5 +1,5 @@
 //! The commands that read a file of blocks.
-ghost use Rattle.std.specs.Prelude.{◌≡◌, [], ◌∷◌, false, length, nat_lt, IfOk, IfSome, option_map, string_bytes};
+ghost use Rattle.std.specs.Prelude.{◌≡◌, ◌≢◌, [], ◌∷◌, false, length, nat_lt, IfOk, IfSome, option_map, string_bytes};
 ghost use Rattle.std.specs.FinMap as finite;
 ghost use Rattle.hex.specs.Hex.{encode_lower};
 ghost use Rattle.cf_bytes.specs.{shown, HasRisen};
@@ -114,6 +114,7 @@ pub fn scan<F: Files, O: Sink>(
     ensures files { AreRead F.reads F.opens F.parts (Whole watch.now ∷ ByParts file.now ∷ []) files.old files.new }
     ensures unwritten { has_run result ≡ false → O.written out.new ≡ O.written out.old }
     ensures file_fault { result ≡ Status.FileFault → HasRisen (F.faults files.old) (F.faults files.new) }
+    ensures file_fine { result ≢ Status.FileFault → F.faults files.new ≡ F.faults files.old }
     ensures counts { CountsOut result (O.faults out.old) (O.faults out.new) }
 {
     let watch = match load_watch(alloc, files, watch) {
@@ -146,6 +147,7 @@ pub fn filter<R: Threads + Sync, F: Files, O: Sink>(
     ensures files { IsReadByParts F.opens F.parts file.now files.old files.new }
     ensures unwritten { has_run result ≡ false → O.written out.new ≡ O.written out.old }
     ensures file_fault { result ≡ Status.FileFault → HasRisen (F.faults files.old) (F.faults files.new) }
+    ensures file_fine { result ≢ Status.FileFault → F.faults files.new ≡ F.faults files.old }
     ensures counts { CountsOut result (O.faults out.old) (O.faults out.new) }
 {
     match load_chain(alloc, files, file) {

@@ -85,6 +85,7 @@ returns-in-Replay-clause-files g c = rw c.in-Replay.is (record {
   unchanged = λ off. c.replay.ensures.unchanged;
   asked = rw (c.as_str.ensures, c.as_str-in-Replay.ensures) at c.replay.ensures.files;
   fault = c.replay.ensures.file_fault;
+  fine = c.replay.ensures.file_fine;
 })
 
 pub returns-in-Sync-clause-files : goal.returns-in-Sync-clause-files
@@ -92,6 +93,7 @@ returns-in-Sync-clause-files g c = rw c.in-Sync.is (record {
   unchanged = unrecorded_by c.in-Sync.«record» c.sync.result _ _ _ c.sync.ensures.files.records;
   asked = rw c.as_str-in-Sync.ensures at c.sync.ensures.files.asked;
   fault = c.sync.ensures.files.fault;
+  fine = c.sync.ensures.files.fine;
 })
 
 pub returns-in-Follow-clause-files : goal.returns-in-Follow-clause-files
@@ -99,6 +101,7 @@ returns-in-Follow-clause-files g c = rw c.in-Follow.is (record {
   unchanged = unrecorded_by c.in-Follow.«record» c.follow.result _ _ _ c.follow.ensures.files.records;
   asked = rw c.as_str-in-Follow.ensures at c.follow.ensures.files.asked;
   fault = c.follow.ensures.files.fault;
+  fine = c.follow.ensures.files.fine;
 })
 
 pub returns-in-Scan-clause-files : goal.returns-in-Scan-clause-files
@@ -106,6 +109,7 @@ returns-in-Scan-clause-files g c = rw c.in-Scan.is (record {
   unchanged = λ off. c.scan.ensures.unchanged;
   asked = (c.scan.new.files, rw (c.as_str-in-Scan.ensures, c.as_str-in-Scan-2.ensures) at c.scan.ensures.files, refl);
   fault = c.scan.ensures.file_fault;
+  fine = c.scan.ensures.file_fine;
 })
 
 pub returns-in-Filter-clause-files : goal.returns-in-Filter-clause-files
@@ -113,6 +117,7 @@ returns-in-Filter-clause-files g c = rw c.in-Filter.is (record {
   unchanged = λ off. c.filter.ensures.unchanged;
   asked = (c.filter.new.files, inr (c.filter.new.files, rw c.as_str-in-Filter.ensures at c.filter.ensures.files, refl), refl);
   fault = c.filter.ensures.file_fault;
+  fine = c.filter.ensures.file_fine;
 })
 
 pub returns-in-Address-clause-files : goal.returns-in-Address-clause-files
@@ -125,6 +130,7 @@ returns-in-Prove-clause-files g c = rw c.in-Prove.is (record {
   unchanged = λ off. c.prove.ensures.unchanged;
   asked = (c.prove.new.files, inr (c.prove.new.files, rw c.as_str-in-Prove.ensures at c.prove.ensures.files, refl), refl);
   fault = c.prove.ensures.file_fault;
+  fine = c.prove.ensures.file_fine;
 })
 
 pub returns-in-Check-clause-files : goal.returns-in-Check-clause-files
@@ -132,6 +138,7 @@ returns-in-Check-clause-files g c = rw c.in-Check.is (record {
   unchanged = λ off. c.check.ensures.unchanged;
   asked = (c.check.new.files, inr (c.check.new.files, rw c.as_str-in-Check.ensures at c.check.ensures.files, refl), refl);
   fault = c.check.ensures.file_fault;
+  fine = c.check.ensures.file_fine;
 })
 
 pub returns-in-Serve-clause-files : goal.returns-in-Serve-clause-files
@@ -139,6 +146,7 @@ returns-in-Serve-clause-files g c = rw c.in-Serve.is (record {
   unchanged = λ off. c.serve.ensures.unchanged;
   asked = (c.serve.new.files, inr (c.serve.new.files, rw c.as_str-in-Serve.ensures at c.serve.ensures.files, refl), refl);
   fault = c.serve.ensures.file_fault;
+  fine = c.serve.ensures.file_fine;
 })
 
 pub returns-in-Make-clause-files : goal.returns-in-Make-clause-files
@@ -146,6 +154,7 @@ returns-in-Make-clause-files g c = rw c.in-Make.is (record {
   unchanged = λ off. cc;
   asked = (c.args.files.now, refl, rw c.as_str-in-Make.ensures at c.make.ensures.files);
   fault = c.make.ensures.file_fault;
+  fine = c.make.ensures.file_fine;
 })
 
 pub returns-in-Demo-clause-files : goal.returns-in-Demo-clause-files
@@ -229,6 +238,7 @@ pub returns-in-Serve-clause-link : goal.returns-in-Serve-clause-link
 returns-in-Serve-clause-link g c = rw c.in-Serve.is (record {
   unserved = λ off. c.serve.ensures.unused (is_on _ off);
   fault = c.serve.ensures.link_fault;
+  fine = c.serve.ensures.link_fine;
 })
 
 pub returns-in-Replay-clause-ends : goal.returns-in-Replay-clause-ends

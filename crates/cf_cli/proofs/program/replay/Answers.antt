@@ -5,6 +5,7 @@ use Rattle.cf_run.specs.Names.{names_in}
 use Rattle.cf_wires.specs.Log.{Told}
 use Rattle.cf_wires.specs.Memory.{log_of, told_of}
 use Rattle.cf_input.specs.Sessions.{script_in}
+use Rattle.cf_offline.proofs.Counting.{counts_fine}
 use Rattle.cf_cli.proofs.Plays.{versions_so, unplayed_words, early_plays, loaded_plays, new_tape, same_told, over_watch, watch_there}
 use Rattle.cf_cli.proofs.Stays.{early_replayed_in, tape_watch_on}
 use Rattle.cf_cli.specs.Following.{TalliedOn}
@@ -82,6 +83,19 @@ pub returns-clause-versions : goal.returns-clause-versions
 returns-clause-versions g c =
     versions_so _ c.args.moment c.args.nonce (told_of c.run_once.new.wires)
     (to_z-of_z {w = w64} {z = c.args.moment} (search rules)) c.run_once.ensures.versions
+
+pub returns-in-Err-clause-file_fine : goal.returns-in-Err-clause-file_fine
+returns-in-Err-clause-file_fine g c = counts_fine c.in-Err.status _ _ c.in-Err.ensures.count
+
+pub returns-in-Err-load_session-clause-file_fine : goal.returns-in-Err-load_session-clause-file_fine
+returns-in-Err-load_session-clause-file_fine g c =
+    λ ne. counts_fine c.in-Err-load_session.status _ _ c.in-Err-load_session.ensures.count ne ∙ c.in-Ok.ensures.count
+
+pub returns-then-follow-clause-file_fine : goal.returns-then-follow-clause-file_fine
+returns-then-follow-clause-file_fine g c = λ ne. c.in-Ok-load_session.ensures.count ∙ c.in-Ok.ensures.count
+
+pub returns-clause-file_fine : goal.returns-clause-file_fine
+returns-clause-file_fine g c = λ ne. c.run_once.ensures.file_fine ne ∙ c.in-Ok-load_session.ensures.count ∙ c.in-Ok.ensures.count
 
 pub returns-in-Err-clause-ends : goal.returns-in-Err-clause-ends
 returns-in-Err-clause-ends g c = ends_early c.in-Err.status _ _ _ c.in-Err.ensures.only

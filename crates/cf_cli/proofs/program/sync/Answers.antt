@@ -4,6 +4,7 @@ use Rattle.std.specs.Int.{w64}
 use Rattle.std.specs.Prelude.{is_some}
 use Rattle.cf_run.specs.Names.{names_in}
 use Rattle.cf_cli.proofs.Plays.{early_told, early_tallied, told_over_watch, watch_there}
+use Rattle.cf_offline.proofs.Counting.{counts_fine}
 use Rattle.cf_cli.proofs.Handed.{unrun_files, unrun_wires, run_files, run_wires}
 use Rattle.cf_cli.proofs.Ends.{ends_early}
 use Rattle.cf_cli.proofs.program.sync.Goals as goal
@@ -25,10 +26,12 @@ returns-in-Err-clause-tallied g c = early_tallied c.in-Err.status _ _ _ c.in-Err
 pub returns-in-Ok-clause-files : goal.returns-in-Ok-clause-files
 returns-in-Ok-clause-files g c =
     run_files c.set_up.new.files c.in-Ok.ensures.good c.set_up.ensures.same c.in-Ok.ensures.kept c.set_up.ensures.files c.run_once.ensures.begun c.run_once.ensures.written
-    c.run_once.ensures.records c.run_once.ensures.file_fault
+    c.run_once.ensures.records c.run_once.ensures.file_fault c.run_once.ensures.file_fine
 
 pub returns-in-Err-clause-files : goal.returns-in-Err-clause-files
-returns-in-Err-clause-files g c = unrun_files c.in-Err.ensures.judged c.in-Err.ensures.only c.set_up.ensures.same (λ is. c.in-Err.ensures.fault (ap Err is)) c.set_up.ensures.files
+returns-in-Err-clause-files g c =
+    unrun_files c.in-Err.ensures.judged c.in-Err.ensures.only c.set_up.ensures.same (λ is. c.in-Err.ensures.fault (ap Err is))
+    (counts_fine c.in-Err.status _ _ c.in-Err.ensures.count) c.set_up.ensures.files
 
 pub returns-in-Ok-clause-wires : goal.returns-in-Ok-clause-wires
 returns-in-Ok-clause-wires g c =
