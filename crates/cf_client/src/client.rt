@@ -291,10 +291,12 @@ impl<H: HeaderStore, M: Matcher> Client<H, M> {
     }
 
     /// A send to a peer has failed. The first that is to be done is to close it; then others are asked, the lowest
-    /// number first.
+    /// number first. A number that isn't in use closes nobody.
     pub fn send_failed(&mut self, p: PeerNo) -> Result<Vec<Act>, NoMemory>
         ensures answers { IfOk result (λ acts. (log cut : Log) → p.0 < count_of self.old → Reflects self.old log
             → CutFor p log cut → Answers self.new acts.items cut) }
+        ensures unused { IfOk result (λ acts. count_of self.old ≤ p.0 → (log : Log) → Reflects self.old log
+            → Answers self.new acts.items log) }
         ensures tells { IfOk result (λ acts. (log cut : Log) → p.0 < count_of self.old → Reflects self.old log
             → CutFor p log cut → All (ActTells (greeting_by self.old)) acts.items) }
         ensures first { IfOk result (λ acts. p.0 < count_of self.old → Extends (Close p SendFailed ∷ []) acts.items) }

@@ -1,5 +1,5 @@
 //! What a delivery does.
-ghost use Rattle.std.specs.Prelude.{◌≡◌, ◌<◌, [], ◌∷◌, OnOk, length};
+ghost use Rattle.std.specs.Prelude.{◌≡◌, ◌<◌, ◌≤◌, [], ◌∷◌, OnOk, length};
 ghost use Rattle.cf_wires.specs.Log.{Log};
 ghost use Rattle.cf_peer.specs.declared.act.Act.TheVariants.{Close};
 ghost use Rattle.cf_peer.specs.declared.peer.Cause.TheVariants.{SendFailed};
@@ -10,7 +10,7 @@ ghost use Rattle.cf_tracker.specs.{verdicts_of, watch_of};
 ghost use Rattle.cf_hear.specs.{AreJudgedBy, judging_of};
 ghost use Rattle.cf_place.specs.{AreCalm};
 ghost use Rattle.cf_client.specs.Order.{ArePrepared, AreTold};
-ghost use Rattle.cf_client.specs.Steps.{desk, HasLeft, HasPinged, Stands, IsInOrder, Taking, CutOff, Moves};
+ghost use Rattle.cf_client.specs.Steps.{desk, HasLeft, HasPinged, Stands, IsInOrder, Same, Taking, CutOff, Moves};
 
 use crate::ask::{close_late, pass_all, ping_all};
 use crate::blame::close_claimants;
@@ -80,7 +80,7 @@ fn lose<H: HeaderStore>(tracker: &mut Tracker<H>, places: &mut [Place], p: PeerN
     }
 }
 
-/// Closes the peer to which a send has failed.
+/// Closes the peer to which a send has failed. A number that isn't in use has no effect.
 pub(crate) fn cut_off<H: HeaderStore>(
     tracker: &mut Tracker<H>,
     places: &mut [Place],
@@ -90,6 +90,8 @@ pub(crate) fn cut_off<H: HeaderStore>(
     requires none { acts.old.items ≡ [] }
     requires order { IsInOrder (desk tracker.old places.old acts.old.items) }
     ensures moves { (mode : Mode) → OnOk result (Moves mode (CutOff p places.old)
+        (desk tracker.old places.old acts.old.items) (desk tracker.new places.new acts.new.items)) }
+    ensures unused { OnOk result (length places.old ≤ p.0 → (mode : Mode) → Moves mode Same
         (desk tracker.old places.old acts.old.items) (desk tracker.new places.new acts.new.items)) }
     ensures first { OnOk result (p.0 < length places.old → acts.new.items ≡ Close p SendFailed ∷ []) }
     ensures verdicts { AreSameVerdicts (verdicts_of tracker.new) (verdicts_of tracker.old) }

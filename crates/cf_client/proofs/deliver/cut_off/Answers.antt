@@ -6,6 +6,7 @@ use Rattle.cf_client.specs.Steps.{desk}
 use Rattle.cf_hear.specs.Seen.{seen_of}
 use Rattle.cf_hear.proofs.Tracking.{put_forgotten}
 use Rattle.cf_client.proofs.Ordering.{told_none, told_close}
+use Rattle.cf_client.proofs.Steps.{moves_self}
 use Rattle.cf_client.proofs.Taking.{cut_moves}
 use Rattle.cf_client.proofs.deliver.cut_off.Goals as goal
 
@@ -14,6 +15,12 @@ returns-clause-moves g c = λ mode.
     rw c.in_ok-push.ensures.items
     (cut_moves mode (desk c.args.tracker.now c.args.places.now c.args.acts.now.items) c.args.p (seen_of c.forget.new.self) c.requires.none (omega arith) c.requires.order
     (put_forgotten (seen_of c.args.tracker.now) (seen_of c.forget.new.self) c.args.p c.forget.ensures.chains c.forget.ensures.table c.forget.ensures.claims c.forget.ensures.verdicts c.forget.ensures.watch c.forget.ensures.opens c.forget.ensures.trials))
+
+pub returns-then-i-places-clause-unused : goal.returns-then-i-places-clause-unused
+returns-then-i-places-clause-unused g c = λ over mode. moves_self (desk c.args.tracker.now c.args.places.now c.args.acts.now.items) c.requires.order
+
+pub returns-clause-unused : goal.returns-clause-unused
+returns-clause-unused g c = λ over mode. absurd (omega (arith, over))
 
 pub returns-then-i-places-clause-told : goal.returns-then-i-places-clause-told
 returns-then-i-places-clause-told g c = told_none c.args.acts.now.items c.requires.none

@@ -1,4 +1,4 @@
-use Rattle.std.proofs.Common.{◌<◌, ℕ, List, length, refl, sym, ◌∙◌, subst, ap, arith}
+use Rattle.std.proofs.Common.{◌<◌, ◌≤◌, ℕ, List, length, refl, sym, ◌∙◌, subst, ap, arith}
 use Rattle.std.proofs.lemmas.List.{with_items_is}
 use Rattle.std.proofs.lemmas.List.Elements.{All-nil}
 use Rattle.std.specs.List.{All}
@@ -66,6 +66,25 @@ returns-clause-answers g c = λ log cut lt reflects is.
       stand = record {
         alive = refl;
         places = subst (λ (places : List Place). PlacesStand places (after c.ask_all.new.acts.items cut)) (sym whole) asked.goes.stand;
+        tracks = asked.tracks;
+        unexposed = asked.unexposed;
+      };
+      allowed = asked.goes.allowed;
+    }
+
+pub returns-clause-unused : goal.returns-clause-unused
+returns-clause-unused g c = λ over log reflects.
+    let kept = c.args.self.now.places in
+    let beyond = subst (λ (places : List Place). length places ≤ c.args.p.0) (sym c.as_mut_slice-places.ensures.value) over in
+    let stand = subst (λ (places : List Place). PlacesStand places log) (sym c.as_mut_slice-places.ensures.value) reflects.places in
+    let start = stands_start {mode = c.args.self.now.mode} c.as_mut_slice-places.result.now (seen_of c.args.self.now.tracker) c.new-acts.result.items log c.new-acts.ensures.items stand reflects.tracks reflects.unexposed in
+    let asked = c.in_ok-ask_all.ensures.moves.stands log log refl ((c.in_ok-cut_off.ensures.unused beyond c.args.self.now.mode).stands log log refl start) in
+    let whole = with_items_is kept c.ask_all.new.places
+    (omega (arith, c.ask_all.auto.places, c.cut_off.auto.places, c.as_mut_slice-places.ensures.len, ap (λ (places : List Place). length places) c.as_mut_slice-places.ensures.value, kept.ok.0)) in
+    record {
+      stand = record {
+        alive = refl;
+        places = subst (λ (places : List Place). PlacesStand places (after c.ask_all.new.acts.items log)) (sym whole) asked.goes.stand;
         tracks = asked.tracks;
         unexposed = asked.unexposed;
       };
