@@ -142,14 +142,10 @@ is_set id met = is_true (text_of id met)
 abbrev pub most_turns : ℕ
 most_turns = 10000000
 
--- a number from 1 to the most, and this one where none is given
-abbrev pub within_or : ℕ → ℕ → Option Text → Option ℕ
-within_or ungiven most None = Some ungiven
-within_or ungiven most (Some text) = number_within most text
-
 -- a number from 1 to the most, which stands also where none is given
 abbrev pub turns_of : Option Text → Option ℕ
-turns_of = within_or most_turns most_turns
+turns_of None = Some most_turns
+turns_of (Some text) = number_within most_turns text
 
 -- at most this many threads judge filters
 abbrev pub most_workers : ℕ
@@ -157,7 +153,8 @@ most_workers = 64
 
 -- a number from 1 to the most, and 4 where none is given
 abbrev pub workers_of : Option Text → Option ℕ
-workers_of = within_or 4 most_workers
+workers_of None = Some 4
+workers_of (Some text) = number_within most_workers text
 
 -- at most this many connections are served
 abbrev pub most_connections : ℕ
@@ -165,7 +162,8 @@ most_connections = 1000000
 
 -- a number from 1 to the most, which stands also where none is given
 abbrev pub connections_of : Option Text → Option ℕ
-connections_of = within_or most_connections most_connections
+connections_of None = Some most_connections
+connections_of (Some text) = number_within most_connections text
 
 -- the greatest height that may be asked for
 abbrev pub most_height : ℕ
@@ -236,18 +234,19 @@ HasFewPeers (Sync _ _ _ _ peers) = length peers ≤ max_dials
 HasFewPeers (Follow _ _ _ _ peers) = length peers ≤ max_dials
 HasFewPeers _ = Unit {0}
 
--- a command on a file, by the text that was found for it and what else was
-abbrev pub on_file : {A : Type 0} → (Text → A → Command) → Option A → Met → Option Command
-on_file command other met =
-    option_and_then (λ file. option_and_then (λ more. Some (command file more)) other) (text_of (codes "file") met)
-
 -- the command `scan`, by what was found for its arguments
 abbrev pub scan_of : Met → Option Command
-scan_of met = on_file Scan (text_of (codes "watch") met) met
+scan_of met =
+    option_and_then (λ file. option_and_then (λ watch.
+    Some (Scan file watch))
+    (text_of (codes "watch") met)) (text_of (codes "file") met)
 
 -- the command `filter`, by what was found for its arguments
 abbrev pub filter_of : Met → Option Command
-filter_of met = on_file Filter (option_and_then height_of (text_of (codes "height") met)) met
+filter_of met =
+    option_and_then (λ file. option_and_then (λ height.
+    Some (Filter file height))
+    (option_and_then height_of (text_of (codes "height") met))) (text_of (codes "file") met)
 
 -- the command `address`, by what was found for its arguments
 abbrev pub address_of : Met → Option Command
@@ -259,7 +258,10 @@ hash_in text = if length text == 64 then option_map (λ bytes. record { 0 = reve
 
 -- the command `prove`, by what was found for its arguments
 abbrev pub prove_of : Met → Option Command
-prove_of met = on_file Prove (option_and_then hash_in (text_of (codes "txid") met)) met
+prove_of met =
+    option_and_then (λ file. option_and_then (λ txid.
+    Some (Prove file txid))
+    (option_and_then hash_in (text_of (codes "txid") met))) (text_of (codes "file") met)
 
 -- the command `check`, by what was found for its arguments
 abbrev pub check_of : Met → Option Command
