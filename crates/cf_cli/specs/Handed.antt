@@ -7,7 +7,7 @@ use Rattle.cf_place.specs.Standing.{Greeting}
 use Rattle.cf_run.specs.Run.{HasDialled, HasFailed}
 use Rattle.cf_run.specs.Versions.{HasGreeting, IsOfGreeting}
 use Rattle.cf_wires.specs.Log.{Log, Told}
-use Rattle.cf_wires.specs.Memory.{log_of, failing_of, finished_of, told_of}
+use Rattle.cf_wires.specs.Memory.{log_of, failing_of, finished_of}
 use Rattle.cf_wires.specs.declared.memory.MemoryWires.{MemoryWires}
 use Rattle.cf_played.specs.Told.{log_of as played_log, peers_of, finished_of as has_finished}
 use Rattle.cf_played.specs.declared.played.Played.{Played}
@@ -85,10 +85,10 @@ pub record UsesWires {W : Type 0} (told : W → Told) (keeps : W → Bool) (faul
   pub undialled : may_dial command status ≡ false → told after ≡ told before
   pub unkept : is_recorded command ≡ false → keeps after ≡ keeps before
 
--- the tape: each version that was sent tells the moment and the random number, and what it tells stays unless the command may play it
+-- the tape: each version that was sent tells the moment and the random number, and it stays unless the command may play it
 pub record UsesTape (moment : ℤ) (nonce : ℕ) (command : Option Command) (status : Status) (before after : MemoryWires) : Type 0 where
   pub versions : IsOfGreeting (record { moment = moment; number = nonce }) (log_of after)
-  pub unplayed : may_play command status ≡ false → told_of after ≡ told_of before
+  pub unplayed : may_play command status ≡ false → after ≡ before
 
 -- the played peers: they stay unless the command may show them
 pub record UsesPlayed (command : Option Command) (before after : Played) : Type 0 where

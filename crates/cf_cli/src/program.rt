@@ -73,7 +73,7 @@ fn replay<F: Files, O: Sink>(
     ensures file_fine { result ≢ Status.FileFault → F.faults files.new ≡ F.faults files.old }
     ensures counts { CountsOut result (O.faults out.old) (O.faults out.new) }
     ensures unwritten { has_run result ≡ false → O.written out.new ≡ O.written out.old }
-    ensures unplayed { was_refused result ≡ true → told_of tape.new ≡ told_of tape.old }
+    ensures unplayed { was_refused result ≡ true → tape.new ≡ tape.old }
     ensures asked { result ≢ Status.Usage }
     ensures ends { AreEndsAfter result false (Some (log_of tape.new)) ends.old.items ends.new.items }
 {
