@@ -83,6 +83,7 @@ undone (Replay follow trace watch session) moment nonce a wires tape log = recor
 undone (Sync turns workers file watch peers) moment nonce a wires tape log = record {
   kept = early_told a.wires NoMemory (is_some file) false a.files watch peers a.written tt wires;
   tallied = early_tallied NoMemory turns (length peers) a.wires tt wires;
+  over = λ ne. absurd (ne refl);
   dialled = new_dialled peers a.wires wires;
   records = refl;
 }

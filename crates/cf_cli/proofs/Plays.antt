@@ -14,7 +14,9 @@ use Rattle.cf_place.specs.Standing.{Greeting}
 use Rattle.cf_run.specs.Versions.{IsOfGreeting, HasGreeting}
 use Rattle.cf_run.specs.Names.{names_in}
 use Rattle.cf_run.specs.Run.{HasDialled, HasFailed, names_of}
+use Rattle.cf_run.specs.Texts.{IsOver}
 use Rattle.cf_run.specs.Whole.{EndsWithin, LeavesWires}
+use Rattle.cf_sync.specs.Fetching.{IsBusy}
 use Rattle.cf_wires.specs.declared.event.Dial.{Dial}
 use Rattle.cf_wires.specs.declared.memory.MemoryWires.{MemoryWires}
 use Rattle.cf_wires.specs.Dials.{answered_at, goes_as_made}
@@ -31,7 +33,7 @@ use Rattle.cf_input.specs.WatchFile.{watch_of}
 use Rattle.cf_answers.specs.Statuses.{has_run}
 use Rattle.cf_cli.specs.Statuses.{verdict_of}
 use Rattle.cf_loading.specs.Verdicts.{IsJudged, Missing, Good, and_then, IsOfFile, watch_verdict, session_verdict}
-use Rattle.cf_cli.specs.Theorem.{AnswersTo, AreLeft, IsWhole, IsWithin, IsWatchFile, KeptOnce, KeptOver, KeptOverWatch, IsOfRun, IsReplayed, Plays, PlaysSession, Tallied, has_somebody}
+use Rattle.cf_cli.specs.Theorem.{AnswersTo, AreLeft, IsWhole, IsWithin, IsWatchFile, KeptOnce, KeptOver, KeptOverWatch, IsOfRun, IsReplayed, Plays, PlaysSession, Tallied, WasOver, has_somebody}
 
 -- an answer to a file: no run is made, and it is among those of `sync` and `replay`
 record IsEarly (status : Status) : Type 0 where
@@ -322,10 +324,18 @@ run_tallied names end ends status was is answers wires within = record {
   early = λ same. within.early (ended_as end HasEnded ends status Ended is refl same);
 }
 
+-- nothing is open where nothing has passed
+pub new_over : (turns : ℕ) (t : Told) → Tells [] t → WasOver turns t
+new_over turns t fresh = by t.log fresh.content where
+  by : (o : Option Log) → IfSome o (λ l. l ≡ []) → IfSome o (λ log. IsBusy log → IsOver turns t.tally)
+  by None h = tt
+  by (Some log) h = subst (λ (l : Log). IsBusy l → IsOver turns t.tally) (sym h) (λ busy. absurd (false≢true busy.1))
+
 -- what is promised of `replay` where the tape wasn't used
 pub early_replayed : (status : Status) (turns : ℕ) (trace : Bool) (files : Option Named) (watch : List ℕ) (b : Option (List ℕ)) (t : Told) (log : Log)
     → IsOfFile status → Tells [] t → log ≡ [] → IsReplayed status turns trace files watch b b t t log
-early_replayed status turns trace files watch b t log is fresh none = ([], early_over status false trace files watch [] b log is none, early_tallied status turns 0 t is fresh)
+early_replayed status turns trace files watch b t log is fresh none =
+    ([], early_over status false trace files watch [] b log is none, early_tallied status turns 0 t is fresh, λ ne. new_over turns t fresh)
 
 -- nothing has passed a new tape
 pub new_tape : (tape : MemoryWires) → log_of tape ≡ [] → Tells [] (told_of tape)

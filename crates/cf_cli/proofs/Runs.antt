@@ -1,6 +1,6 @@
 -- What the end of a run says of the answer.
-use Rattle.std.proofs.Common.{◌≡◌, ◌≢◌, inr, ℕ, Bool, true, false, List, length, Option, Some, None, refl, sym, ◌∙◌, ap, subst}
-use Rattle.std.specs.Prelude.{IfSome}
+use Rattle.std.proofs.Common.{◌≡◌, ◌≢◌, inl, inr, ℕ, Bool, true, false, List, length, Option, Some, None, refl, sym, ◌∙◌, ap, subst}
+use Rattle.std.specs.Prelude.{not, ◌&&◌, ◌||◌, IfSome}
 use Rattle.std.proofs.lemmas.Bool.{both_ways}
 use Rattle.cf_block.specs.declared.tx.Block.{Block}
 use Rattle.cf_bytes.specs.Outside.{with_more}
@@ -15,10 +15,11 @@ use Rattle.cf_place.specs.declared.place.PeerEnd.{PeerEnd}
 use Rattle.cf_place.specs.Standing.{EndsTell}
 use Rattle.cf_run.specs.declared.outcome.Outcome.{Outcome}
 use Rattle.cf_run.specs.Run.{IsEnd}
-use Rattle.cf_run.specs.Whole.{IsOutcome}
-use Rattle.cf_peer.specs.Asking.{is_open}
-use Rattle.cf_wires.specs.Log.{Log}
-use Rattle.cf_peer.specs.Trail.{trail, connected}
+use Rattle.cf_run.specs.Texts.{IsOver}
+use Rattle.cf_run.specs.Whole.{EndsWithin, IsOutcome}
+use Rattle.cf_peer.specs.Asking.{is_open, is_idle, request}
+use Rattle.cf_wires.specs.Log.{Log, Tally, Told}
+use Rattle.cf_peer.specs.Trail.{Trail, trail, connected, ready}
 use Rattle.cf_scan.specs.declared.history.Entry.{Entry}
 use Rattle.cf_scan.specs.HistoryText.{history_text}
 use Rattle.cf_scan.specs.Scan.{scan_of}
@@ -27,7 +28,7 @@ use Rattle.cf_sync.specs.Sync.{SyncTheorem, IsHistoryOf}
 use Rattle.cf_answers.specs.declared.status.Status.{Status}
 use Rattle.cf_answers.specs.declared.status.Status.TheVariants.{Done, NoMemory, Usage, BadFile, FileFault, OutFault, NoPeers, Tired, Ended, LinkFault, NoNonce, NoHeight, NotThere, NotAddress}
 use Rattle.cf_answers.specs.Texts.{run_text}
-use Rattle.cf_cli.specs.Theorem.{IsAnswerOf, Settles, IsComplete, KeptOnce, TellsEnds, AnswersTo, WasFollowed}
+use Rattle.cf_cli.specs.Theorem.{IsAnswerOf, Settles, IsComplete, KeptOnce, TellsEnds, AnswersTo, WasFollowed, WasOver}
 
 -- the answer, where the text was written
 pub answered : (end : End) (ends : List PeerEnd) (status : Status) (before after : Option (List ℕ)) (text : List ℕ) → AnswersTo end ends status → after ≡ with_more before text → IsAnswerOf end status before after text
@@ -96,6 +97,24 @@ history_written watch blocks end height tip entries lines trace before after tol
 
 quiet_once_synced : (end : End) (log : Log) → IsEnd end log → end ≡ IsSynced → IsQuiet log
 quiet_once_synced end log why is = let synced : IsEnd IsSynced log = subst (λ (e : End). IsEnd e log) is why in synced.0
+
+-- nothing is open to who isn't connected
+off_not_open : (t : Trail) → connected t ≡ false → is_open t ≡ false
+off_not_open t off = ap (λ (b : Bool). b && (not (ready t) || not (is_idle (request t)))) off
+
+-- a run that ended so was over
+over_by_end : (end : End) (names turns : ℕ) (log : Log) (tally : Tally) → IsEnd end log → EndsWithin end names turns tally → IsBusy log → IsOver turns tally
+over_by_end IsSynced names turns log tally why within busy = absurd (busy_not_quiet log busy why.0)
+over_by_end HasNoPeers names turns log tally why within busy = absurd (busy_not_quiet log busy (λ p. off_not_open (trail log p) (why p)))
+over_by_end IsTired names turns log tally why within busy = inl (within.tired refl)
+over_by_end HasEnded names turns log tally why within busy = inr (within.ended refl)
+
+pub was_over : (counts : Chains → ℕ → Type 0) (rule : Rule) (called : List (List ℕ)) (o : Outcome) (names turns : ℕ) (t : Told)
+    → IfSome t.log (IsOutcome counts rule called o) → EndsWithin o.end names turns t.tally → WasOver turns t
+was_over counts rule called o names turns t is within = by t.log is where
+  by : (l : Option Log) → IfSome l (IsOutcome counts rule called o) → IfSome l (λ log. IsBusy log → IsOver turns t.tally)
+  by None outcome = tt
+  by (Some log) outcome = over_by_end o.end names turns log t.tally outcome.followed.why within
 
 -- what is put together of a run tells how it went
 abbrev pub followed_by : (counts : Chains → ℕ → Type 0) (rule : Rule) (names : List (List ℕ)) (o : Outcome) (log : Log)

@@ -38,7 +38,7 @@ use Rattle.cf_answers.specs.declared.status.Status.TheVariants.{Done, NoMemory, 
 use Rattle.cf_loading.specs.Verdicts.{IsOfFile}
 use Rattle.cf_offline.specs.Reading.{CountsOut}
 use Rattle.cf_cli.specs.Handed.{CountsOn}
-use Rattle.cf_cli.specs.Following.{BegunTexts, CutShort, EndsBy, GivenUp, Grows, IsReplayedIn, IsReplayedOn, KeptLive, KeptOn, KeptOnOver, KeptOnTape, Stayed, TalliedOn, with_trace}
+use Rattle.cf_cli.specs.Following.{BegunTexts, CutShort, EndsBy, GivenUp, Grows, IsReplayedIn, IsReplayedOn, KeptLive, KeptOn, KeptOnOver, KeptOnTape, Stayed, TalliedOn, WasOverOn, with_trace}
 use Rattle.cf_answers.specs.Statuses.{has_run, is_over, was_refused, was_unbegun}
 use Rattle.cf_cli.specs.Theorem.{AnswersTo, IsComplete, IsOfRun, IsWatchFile}
 use Rattle.cf_cli.proofs.Plays.{early_replayed, early_tallied, early_watch, ended_as, no_run, not_run, run_tallied, spent_tallied, unwritten_tallied}
@@ -640,6 +640,13 @@ run_tallied_on names end ends status was is answers wires within over = record {
   done = λ same. over (ended_as end IsSynced ends status Done is refl same);
 }
 
+-- whatever it ended as, it was over
+pub was_over_on : (end : End) (names turns : ℕ) (t : Told) → EndsWithin end names turns t.tally → (end ≡ IsSynced → IsOver turns t.tally) → WasOverOn turns t
+was_over_on IsSynced names turns t within over = inr (over refl)
+was_over_on HasNoPeers names turns t within over = inl (within.no_peers.0 refl)
+was_over_on IsTired names turns t within over = inr (inl (within.tired refl))
+was_over_on HasEnded names turns t within over = inr (inr (within.ended refl))
+
 early_on_tape : (status : Status) (trace : Bool) (files : Option Named) (watch : List ℕ) (names : List (List ℕ)) (b : Option (List ℕ)) (log : Log) → IsOfFile status → log ≡ []
     → KeptOnTape status trace files watch names b b log
 early_on_tape status trace files watch names b log file none = record {
@@ -652,7 +659,7 @@ early_on_tape status trace files watch names b log file none = record {
 pub early_replayed_on : (status : Status) (turns : ℕ) (trace : Bool) (files : Option Named) (watch : List ℕ) (b : Option (List ℕ)) (t : Told) (log : Log)
     → IsOfFile status → Tells [] t → log ≡ [] → IsReplayedOn status turns trace files watch b b t t log
 early_replayed_on status turns trace files watch b t log is fresh none =
-    ([], early_on_tape status trace files watch [] b log is none, early_tallied_on status turns 0 t is fresh)
+    ([], early_on_tape status trace files watch [] b log is none, early_tallied_on status turns 0 t is fresh, λ same. absurd (not_run status OutFault (no_run status is) refl same))
 
 -- the same in either mode
 pub early_replayed_in : (follow : Bool) (status : Status) (turns : ℕ) (trace : Bool) (files : Option Named) (watch : List ℕ) (b : Option (List ℕ)) (t : Told) (log : Log)

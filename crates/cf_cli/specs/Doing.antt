@@ -1,5 +1,5 @@
 -- statement: what each command does.
-use Rattle.std.specs.Prelude.{◌≡◌, ℕ, ℤ, Bool, false, List, length, Option, is_some, IfSome}
+use Rattle.std.specs.Prelude.{◌≡◌, ◌≢◌, ℕ, ℤ, Bool, false, List, length, Option, is_some, IfSome}
 use Rattle.std.specs.FinMap as finite
 use Rattle.cf_bytes.specs.Files.{Named}
 use Rattle.cf_run.specs.Run.{HasDialled}
@@ -14,6 +14,7 @@ use Rattle.cf_input.specs.declared.words.Command.TheVariants.{Replay, Sync, Foll
 use Rattle.cf_input.specs.SessionFile.{session_of}
 use Rattle.cf_input.specs.Words.{most_turns}
 use Rattle.cf_answers.specs.declared.status.Status.{Status}
+use Rattle.cf_answers.specs.declared.status.Status.TheVariants.{NoMemory}
 use Rattle.cf_cli.specs.Demo.{IsDemoed}
 use Rattle.cf_offline.specs.Making.{IsMaking}
 use Rattle.cf_offline.specs.Proving.{IsProved, IsChecked}
@@ -21,7 +22,7 @@ use Rattle.cf_offline.specs.Reading.{IsScanned, IsFiltered, IsAddressed}
 use Rattle.cf_cli.specs.Recording.{Records}
 use Rattle.cf_cli.specs.Serving.{IsServing}
 use Rattle.cf_cli.specs.Following.{IsReplayedIn, KeptLive, TalliedOn}
-use Rattle.cf_cli.specs.Theorem.{KeptOver, Tallied, PlaysSession}
+use Rattle.cf_cli.specs.Theorem.{KeptOver, Tallied, PlaysSession, WasOver}
 
 -- all that a run is handed: what stands in the files, what the sink was given, how often it has failed, what the wires and the tape tell, the log of the
 -- tape, what the link tells, and the log of the played peers
@@ -48,11 +49,12 @@ around files written faults wires tape players link = record {
   played = played_log players;
 }
 
--- all that is promised of `sync`: the sync theorem over the log of the wires, where they tell it; what holds over any wires; that the names which were
--- dialled are the first of those given; and the files
+-- all that is promised of `sync`: the sync theorem over the log of the wires, where they tell it; what holds over any wires; that the run was over unless
+-- memory was wanting; that the names which were dialled are the first of those given; and the files
 pub record IsSyncing (status : Status) (turns : ℕ) (file : Option (List ℕ)) (watch : List ℕ) (peers : List (List ℕ)) (before after : Around) : Type 0 where
   pub kept : IfSome after.wires.log (λ log. KeptOver status (is_some file) false before.files watch peers before.written after.written log)
   pub tallied : Tallied status turns (length peers) before.wires after.wires
+  pub over : status ≢ NoMemory → WasOver turns after.wires
   pub dialled : HasDialled peers after.wires
   pub records : Records status file after.wires.log before.files after.files
 

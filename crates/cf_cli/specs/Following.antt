@@ -8,7 +8,7 @@ use Rattle.cf_headers.specs.Chain.{NoHashClash}
 use Rattle.cf_place.specs.declared.place.PeerEnd.{PeerEnd}
 use Rattle.cf_run.specs.declared.trace.TraceLine.{TraceLine}
 use Rattle.cf_place.specs.Standing.{EndsTell}
-use Rattle.cf_run.specs.Run.{IsTraceOf, WasRun}
+use Rattle.cf_run.specs.Run.{IsTraceOf, NobodyLeft, WasRun}
 use Rattle.cf_run.specs.Texts.{HasBegun, HasPut, HasPutBut, HasPutSome, IsOver, joined}
 use Rattle.cf_sync.specs.Fetching.{AreBytes, IsQuiet, RightlyIn, following}
 use Rattle.cf_sync.specs.Growing.{IsGrowing, IsTold, OthersShowNone}
@@ -124,10 +124,15 @@ pub record TalliedOn (status : Status) (turns names : ℕ) (was now : Told) : Ty
   pub tallied : Tallied status turns names was now
   pub done : status ≡ Done → IsOver turns now.tally
 
--- what is promised of `replay --follow` over a tape: the same, of a log whose names aren't told
+-- nobody is left, the turns are taken, or the wires have no more to give: so a run that follows was over
+abbrev pub WasOverOn : ℕ → Told → Type 0
+WasOverOn turns now = NobodyLeft now.tally ⊎ IsOver turns now.tally
+
+-- what is promised of `replay --follow` over a tape: the same, of a log whose names aren't told, and that the run was over where the sink has failed
 abbrev pub IsReplayedOn : Status → ℕ → Bool → Option Named → List ℕ → Option (List ℕ) → Option (List ℕ) → Told → Told → Log → Type 0
 IsReplayedOn status turns trace files watch before after was now log =
     (names : List (List ℕ)) × KeptOnTape status trace files watch names before after log × TalliedOn status turns (length names) was now
+    × (status ≡ OutFault → WasOverOn turns now)
 
 -- what is promised of `replay`, with `--follow` or without
 abbrev pub IsReplayedIn : Bool → Status → ℕ → Bool → Option Named → List ℕ → Option (List ℕ) → Option (List ℕ) → Told → Told → Log → Type 0

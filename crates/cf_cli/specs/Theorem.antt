@@ -14,7 +14,8 @@ use Rattle.cf_place.specs.declared.place.PeerEnd.{PeerEnd}
 use Rattle.cf_run.specs.declared.trace.TraceLine.{TraceLine}
 use Rattle.cf_place.specs.Standing.{EndsTell}
 use Rattle.cf_run.specs.Run.{RanTo, NobodyLeft}
-use Rattle.cf_sync.specs.Fetching.{IsQuiet, Rule, once}
+use Rattle.cf_run.specs.Texts.{IsOver}
+use Rattle.cf_sync.specs.Fetching.{IsBusy, IsQuiet, Rule, once}
 use Rattle.cf_sync.specs.Honesty.{IsHonest, ShowsNoOther, IsNeverClosed}
 use Rattle.cf_sync.specs.Sync.{IsHashed}
 use Rattle.cf_wires.specs.Dials.{goes_as_made}
@@ -156,6 +157,10 @@ pub record Tallied (status : Status) (turns names : ℕ) (was now : Told) : Type
   pub ended : status ≡ Ended → now.tally.ended ≡ 1
   pub early : status ≡ Ended → now.tally.taken < turns
 
+-- where something is still open, the turns are taken, or the wires have no more to give: so a run that ends once nothing is open was over
+abbrev pub WasOver : ℕ → Told → Type 0
+WasOver turns now = IfSome now.log (λ log. IsBusy log → IsOver turns now.tally)
+
 -- What the log of a session says, whatever the answer: its dials and its deliveries are the first of the session's, in order. All deliveries are
 -- there once the end was told, and all dials once the run is made. Each dial went as the session says, and no send failed.
 pub record Plays (status : Status) (script : Script) (log : Log) : Type 0 where
@@ -172,10 +177,11 @@ AnswersTo HasNoPeers ends status = (told : Vec PeerEnd Global) × (status ≡ No
 AnswersTo IsTired ends status = status ≡ Tired
 AnswersTo HasEnded ends status = status ≡ Ended
 
--- what is promised of `replay` over a tape: the same, of a log whose names aren't told
+-- what is promised of `replay` over a tape: the same, of a log whose names aren't told, and that the run was over unless memory was wanting
 abbrev pub IsReplayed : Status → ℕ → Bool → Option Named → List ℕ → Option (List ℕ) → Option (List ℕ) → Told → Told → Log → Type 0
 IsReplayed status turns trace files watch before after was now log =
     (names : List (List ℕ)) × KeptOver status false trace files watch names before after log × Tallied status turns (length names) was now
+    × (status ≢ NoMemory → WasOver turns now)
 
 -- what the log says of a session that was read
 abbrev pub PlaysSession : Status → Result Script SessionFault → Log → Type 0

@@ -6,7 +6,7 @@ ghost use Rattle.cf_offline.specs.{CountsOut};
 ghost use Rattle.cf_wires.specs.{Tells};
 ghost use Rattle.cf_cli.specs.Ends.{AreEndsAfter, AreEndsOver};
 ghost use Rattle.cf_cli.specs.Handed.{CountsOn};
-ghost use Rattle.cf_cli.specs.Following.{CutShort, GivenUp, KeptOn, TalliedOn, with_trace};
+ghost use Rattle.cf_cli.specs.Following.{CutShort, GivenUp, KeptOn, TalliedOn, WasOverOn, with_trace};
 ghost use Rattle.cf_cli.specs.Recording.{Records};
 ghost use Rattle.cf_answers.specs.{has_run, was_refused, was_unbegun};
 
@@ -164,6 +164,7 @@ pub(crate) fn follow_on_tape<W: Wires, M: Matcher + Drop, O: Sink>(
         (λ log. KeptOn result false trace watch (names_in names.now) (O.written out.old) (O.written out.new) log) }
     ensures refused { result ≡ Status.OutFault → IfSome (W.told wires.new).log
         (λ log. CutShort trace watch (names_in names.now) (O.written out.old) (O.written out.new) log) }
+    ensures over { result ≡ Status.OutFault → WasOverOn turns (W.told wires.new) }
     ensures tallied { TalliedOn result turns (length (names_in names.now)) (W.told wires.old) (W.told wires.new) }
     ensures versions { HasGreeting (record { moment = moment; number = nonce }) (W.told wires.new) }
     ensures dialled { HasDialled (names_in names.now) (W.told wires.new) }

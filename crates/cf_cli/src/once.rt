@@ -7,7 +7,7 @@ ghost use Rattle.cf_wires.specs.{Tells};
 ghost use Rattle.cf_cli.specs.Ends.{AreEndsAfter};
 ghost use Rattle.cf_cli.specs.Recording.{Records};
 ghost use Rattle.cf_answers.specs.{has_run, is_over, was_refused, was_unbegun};
-ghost use Rattle.cf_cli.specs.Theorem.{KeptOnce, Tallied, AnswersTo, IsOfRun};
+ghost use Rattle.cf_cli.specs.Theorem.{KeptOnce, Tallied, AnswersTo, IsOfRun, WasOver};
 
 use crate::recording::{keep_where, write_record};
 use cf_answers::{Status, text_of};
@@ -70,6 +70,7 @@ pub(crate) fn run_once<F: Files, W: Wires, M: Matcher + Drop, O: Sink>(
     ensures kept { IfSome (W.told wires.new).log (λ log. KeptOnce result (is_some log_file.now) trace watch
         (names_in names.now) (O.written out.old) (O.written out.new) log) }
     ensures tallied { Tallied result turns (length (names_in names.now)) (W.told wires.old) (W.told wires.new) }
+    ensures over { result ≢ Status.NoMemory → WasOver turns (W.told wires.new) }
     ensures versions { HasGreeting (record { moment = moment; number = nonce }) (W.told wires.new) }
     ensures dialled { HasDialled (names_in names.now) (W.told wires.new) }
     ensures same { W.script wires.new ≡ W.script wires.old }

@@ -16,7 +16,7 @@ ghost use Rattle.cf_cli.specs.Doing.{Does, around};
 ghost use Rattle.cf_cli.specs.Ends.{AreEnds, AreEndsAfter, AreEndsOver};
 ghost use Rattle.cf_cli.specs.Handed.{CountsOn, IsNewPlayed, IsNewTape, RunsFiles, RunsWires, UsesFiles, UsesLink, UsesOut, UsesPlayed, UsesTape, UsesWires};
 ghost use Rattle.cf_cli.specs.Following.{IsReplayedIn, KeptLive, TalliedOn};
-ghost use Rattle.cf_cli.specs.Theorem.{KeptOver, Tallied, PlaysSession};
+ghost use Rattle.cf_cli.specs.Theorem.{KeptOver, Tallied, PlaysSession, WasOver};
 ghost use Rattle.cf_input.specs.declared.words.Command.{Command};
 
 use crate::demoing::demo;
@@ -175,6 +175,7 @@ fn sync<R: Wait + Threads + Copy + Drop + Send + 'static, F: Files, W: Wires, K:
     ensures kept { IfSome (W.told wires.new).log (λ log. KeptOver result (is_some log_file.now) false
         (F.files files.old) watch.now (names_in peers.now) (O.written out.old) (O.written out.new) log) }
     ensures tallied { Tallied result turns (length (names_in peers.now)) (W.told wires.old) (W.told wires.new) }
+    ensures over { result ≢ Status.NoMemory → WasOver turns (W.told wires.new) }
     ensures files { RunsFiles F.files F.faults F.reads F.opens F.parts F.writes watch.now log_file.now
         (W.told wires.new).log result files.old files.new }
     ensures wires { RunsWires W.told W.keeps W.faults (record { moment = moment; number = nonce })

@@ -11,7 +11,7 @@ use Rattle.cf_answers.specs.declared.status.Status.TheVariants.{NoMemory, OutFau
 use Rattle.cf_answers.specs.Statuses.{is_over}
 use Rattle.cf_cli.proofs.Ends.{copied, ends_put, ends_stay}
 use Rattle.cf_cli.proofs.Plays.{all_dialled, new_dialled, versions_so}
-use Rattle.cf_cli.proofs.Stays.{counts_fine, cut_told, early_tallied_on, fresh_told, run_begun, run_tallied_on, silent_told, some_by_told, some_put_told, spent_tallied_on, stayed_told, tape_begun, tape_written, unwritten_tallied_on, unwritten_told}
+use Rattle.cf_cli.proofs.Stays.{counts_fine, cut_told, early_tallied_on, fresh_told, run_begun, run_tallied_on, silent_told, some_by_told, some_put_told, spent_tallied_on, stayed_told, tape_begun, tape_written, unwritten_tallied_on, unwritten_told, was_over_on}
 use Rattle.cf_cli.proofs.following.follow_on_tape.Goals as goal
 
 -- ---- memory is wanting
@@ -62,6 +62,9 @@ returns-in-Ok-put_all-clause-kept g c =
 pub returns-in-Ok-put_all-clause-refused : goal.returns-in-Ok-put_all-clause-refused
 returns-in-Ok-put_all-clause-refused g c = λ is. absurd (false≢true (sym (ap is_over is) ∙ c.status_of.ensures.over))
 
+pub returns-in-Ok-put_all-clause-over : goal.returns-in-Ok-put_all-clause-over
+returns-in-Ok-put_all-clause-over g c = λ is. absurd (false≢true (sym (ap is_over is) ∙ c.status_of.ensures.over))
+
 pub returns-in-Ok-put_all-clause-tallied : goal.returns-in-Ok-put_all-clause-tallied
 returns-in-Ok-put_all-clause-tallied g c =
     let o = c.in-Ok-follow_over.outcome in
@@ -89,6 +92,10 @@ pub returns-clause-kept : goal.returns-clause-kept
 returns-clause-kept g c =
     unwritten_told (g.W.Wires.told c.follow_over.new.wires).log c.args.watch (names_in c.args.names.now) c.in-Ok-follow_over.outcome false c.args.trace (g.O.Sink.written c.args.out.now) (g.O.Sink.written c.put_all.new.sink)
     (returns-clause-refused g c refl) c.in-Ok-follow_over.ensures.theorem
+
+pub returns-clause-over : goal.returns-clause-over
+returns-clause-over g c = λ is.
+    was_over_on _ _ _ (g.W.Wires.told c.follow_over.new.wires) c.in-Ok-follow_over.ensures.within c.in-Ok-follow_over.ensures.done
 
 pub returns-clause-tallied : goal.returns-clause-tallied
 returns-clause-tallied g c = unwritten_tallied_on _ c.follow_over.ensures.wires (all_dialled c.args.names.now c.in-Ok-follow_over.ensures.within)

@@ -8,7 +8,7 @@ use Rattle.cf_run.specs.Names.{names_in}
 use Rattle.cf_sync.specs.Fetching.{once}
 use Rattle.cf_answers.specs.declared.status.Status.TheVariants.{NoMemory, FileFault, OutFault}
 use Rattle.cf_run.proofs.Versions.{new_words}
-use Rattle.cf_cli.proofs.Runs.{answered, kept_told, kept_without, unrecorded_told, stands_by, stands_unsaid}
+use Rattle.cf_cli.proofs.Runs.{answered, kept_told, kept_without, unrecorded_told, stands_by, stands_unsaid, was_over}
 use Rattle.cf_cli.proofs.Plays.{all_dialled, versions_so, early_tallied, spent_tallied, unwritten_tallied, run_tallied, new_dialled, new_unfailed}
 use Rattle.cf_cli.proofs.Stays.{counts_fine, run_begun}
 use Rattle.cf_cli.proofs.Ends.{copied, ends_put, ends_stay}
@@ -78,6 +78,35 @@ pub returns-in-Ok-put_all-clause-tallied : goal.returns-in-Ok-put_all-clause-tal
 returns-in-Ok-put_all-clause-tallied g c =
     let o = c.in-Ok-sync_over.outcome in
     run_tallied c.args.names.now o.end o.ends.items c.status_of.result _ c.status_of.ensures.answer c.status_of.ensures.answers c.sync_over.ensures.wires c.in-Ok-sync_over.ensures.within
+
+-- ---- that it was over
+
+pub returns-in_default-clause-over : goal.returns-in_default-clause-over
+returns-in_default-clause-over g c = λ ne. absurd (ne refl)
+
+pub returns-in_default-sync_over-clause-over : goal.returns-in_default-sync_over-clause-over
+returns-in_default-sync_over-clause-over g c = λ ne. absurd (ne refl)
+
+pub returns-in_default-ends_of-clause-over : goal.returns-in_default-ends_of-clause-over
+returns-in_default-ends_of-clause-over g c = λ ne. absurd (ne refl)
+
+pub returns-in_default-text_of-clause-over : goal.returns-in_default-text_of-clause-over
+returns-in_default-text_of-clause-over g c = λ ne. absurd (ne refl)
+
+pub returns-in-Err-NoMemory-clause-over : goal.returns-in-Err-NoMemory-clause-over
+returns-in-Err-NoMemory-clause-over g c = λ ne. absurd (ne refl)
+
+pub returns-in-Err-No-clause-over : goal.returns-in-Err-No-clause-over
+returns-in-Err-No-clause-over g c = λ ne.
+    was_over CountsOnce (once c.args.watch) (names_in c.args.names.now) c.in-Ok-sync_over.outcome _ _ (g.W.Wires.told c.sync_over.new.wires) c.in-Ok-sync_over.ensures.outcome c.in-Ok-sync_over.ensures.within
+
+pub returns-in-Err-clause-over : goal.returns-in-Err-clause-over
+returns-in-Err-clause-over g c = λ ne.
+    was_over CountsOnce (once c.args.watch) (names_in c.args.names.now) c.in-Ok-sync_over.outcome _ _ (g.W.Wires.told c.sync_over.new.wires) c.in-Ok-sync_over.ensures.outcome c.in-Ok-sync_over.ensures.within
+
+pub returns-in-Ok-put_all-clause-over : goal.returns-in-Ok-put_all-clause-over
+returns-in-Ok-put_all-clause-over g c = λ ne.
+    was_over CountsOnce (once c.args.watch) (names_in c.args.names.now) c.in-Ok-sync_over.outcome _ _ (g.W.Wires.told c.sync_over.new.wires) c.in-Ok-sync_over.ensures.outcome c.in-Ok-sync_over.ensures.within
 
 -- ---- what its wires told
 

@@ -40,6 +40,7 @@ pub returns-in-Sync-clause-does : goal.returns-in-Sync-clause-does
 returns-in-Sync-clause-does g c = rw c.in-Sync.is (record {
   kept = rw (c.as_str-in-Sync.ensures, c.as_slice.ensures) at c.sync.ensures.kept;
   tallied = rw c.as_slice.ensures at c.sync.ensures.tallied;
+  over = c.sync.ensures.over;
   dialled = rw c.as_slice.ensures at c.sync.ensures.wires.dialled;
   records = c.sync.ensures.files.records;
 })

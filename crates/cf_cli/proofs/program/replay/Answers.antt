@@ -31,6 +31,7 @@ returns-then-follow-clause-replayed g c = rw c.if-follow.true (
       c.follow_on_tape.ensures.kept c.follow_on_tape.ensures.refused,
   subst (λ (t : Told). TalliedOn c.follow_on_tape.result 10000000 (length (names_in c.as_slice-names.result.now)) t (told_of c.follow_on_tape.new.wires))
       (same_told c.load.new.self c.args.tape.now c.load.ensures.log c.load.ensures.finished) c.follow_on_tape.ensures.tallied,
+  c.follow_on_tape.ensures.over,
 )
 
 pub returns-clause-replayed : goal.returns-clause-replayed
@@ -41,6 +42,7 @@ returns-clause-replayed g c = rw c.if-follow.false (
       (watch_there (g.F.Files.files c.args.files.now) c.args.watch.now c.in-Ok.scripts c.in-Ok.ensures.answer c.in-Ok.ensures.scripts) c.run_once.ensures.kept,
   subst (λ (t : Told). Tallied c.run_once.result 10000000 (length (names_in c.as_slice-names.result.now)) t (told_of c.run_once.new.wires))
       (same_told c.load.new.self c.args.tape.now c.load.ensures.log c.load.ensures.finished) c.run_once.ensures.tallied,
+  c.run_once.ensures.over,
 )
 
 pub returns-in-Err-clause-plays : goal.returns-in-Err-clause-plays

@@ -3,8 +3,8 @@ use Rattle.std.proofs.Math.Facts.{to_z-of_z}
 use Rattle.std.specs.Int.{w64}
 use Rattle.std.specs.Prelude.{is_some}
 use Rattle.cf_run.specs.Names.{names_in}
-use Rattle.cf_cli.proofs.Plays.{early_told, early_tallied, told_over_watch, watch_there}
 use Rattle.cf_offline.proofs.Counting.{counts_fine}
+use Rattle.cf_cli.proofs.Plays.{early_told, early_tallied, new_over, told_over_watch, watch_there}
 use Rattle.cf_cli.proofs.Handed.{unrun_files, unrun_wires, run_files, run_wires}
 use Rattle.cf_cli.proofs.Ends.{ends_early}
 use Rattle.cf_cli.proofs.program.sync.Goals as goal
@@ -22,6 +22,9 @@ returns-in-Err-clause-kept g c =
 
 pub returns-in-Err-clause-tallied : goal.returns-in-Err-clause-tallied
 returns-in-Err-clause-tallied g c = early_tallied c.in-Err.status _ _ _ c.in-Err.ensures.only c.requires.wires.log
+
+pub returns-in-Err-clause-over : goal.returns-in-Err-clause-over
+returns-in-Err-clause-over g c = λ ne. new_over _ _ c.requires.wires.log
 
 pub returns-in-Ok-clause-files : goal.returns-in-Ok-clause-files
 returns-in-Ok-clause-files g c =
