@@ -170,7 +170,7 @@ pub fn serve_grown<R: Wait, J: Joins, C: Duplex>(
 ) -> Ending
     ensures served { IfSome (C.left conn.old)
         (λ bytes. IsServedGrowing moment nonce result bytes
-            (C.left conn.new) (C.written conn.old) (C.written conn.new)) }
+        (C.left conn.new) (C.written conn.old) (C.written conn.new)) }
     ensures ends { EndsOf result (C.ended conn.new) (C.left conn.new) }
     ensures counts { CountsOf result (C.Source.faults conn.old) (C.Source.faults conn.new) (C.Sink.faults conn.old)
         (C.Sink.faults conn.new) }
