@@ -25,19 +25,17 @@ abbrev pub joined : List (List ℕ) → List ℕ
 joined [] = []
 joined (text ∷ before) = joined before ++ text
 
--- texts that are so were put whole, one after the other, and no others
-pub record HasTaken (are : List (List ℕ) → Type 0) (before now : Option (List ℕ)) : Type 0 where
+-- the texts of all moments at rest were put whole, that of the last moment among them, each unless it is the one that was put before it, and no others
+pub record HasPut (watch : List (List ℕ)) (log : Log) (before now : Option (List ℕ)) : Type 0 where
   pub texts : List (List ℕ)
-  pub puts : are texts
+  pub puts : ArePut watch log texts
   pub taken : now ≡ with_more before (joined texts)
 
--- the texts of all moments at rest were put whole, that of the last moment among them, each unless it is the one that was put before it, and no others
-abbrev pub HasPut : List (List ℕ) → Log → Option (List ℕ) → Option (List ℕ) → Type 0
-HasPut watch log before now = HasTaken (ArePut watch log) before now
-
 -- where no memory was found: the texts of all moments at rest before the last delivery were put whole, or by now, and no others
-abbrev pub HasPutSo : List (List ℕ) → Log → Option (List ℕ) → Option (List ℕ) → Type 0
-HasPutSo watch log before now = HasTaken (λ texts. WerePut watch log texts ⊎ ArePut watch log texts) before now
+pub record HasPutSo (watch : List (List ℕ)) (log : Log) (before now : Option (List ℕ)) : Type 0 where
+  pub texts : List (List ℕ)
+  pub puts : WerePut watch log texts ⊎ ArePut watch log texts
+  pub taken : now ≡ with_more before (joined texts)
 
 -- where what takes the texts has failed: the texts of all moments at rest before the last delivery were put whole, and of the one that is due now a
 -- beginning
@@ -104,12 +102,16 @@ PutsSome NoMemory c before old new = new ≡ old
 PutsSome Failed c before old new = PutsBut c before old new
 
 -- all texts were put, by now
-abbrev pub AllPut : List (List ℕ) → Told → Option (List ℕ) → Option (List ℕ) → Type 0
-AllPut watch t before now = HasTaken (λ texts. PutBy watch texts t) before now
+pub record AllPut (watch : List (List ℕ)) (t : Told) (before now : Option (List ℕ)) : Type 0 where
+  pub texts : List (List ℕ)
+  pub puts : PutBy watch texts t
+  pub taken : now ≡ with_more before (joined texts)
 
 -- all texts were put, before the last delivery or by now
-abbrev pub SoPut : List (List ℕ) → Told → Option (List ℕ) → Option (List ℕ) → Type 0
-SoPut watch t before now = HasTaken (λ texts. PutBefore watch texts t ⊎ PutBy watch texts t) before now
+pub record SoPut (watch : List (List ℕ)) (t : Told) (before now : Option (List ℕ)) : Type 0 where
+  pub texts : List (List ℕ)
+  pub puts : PutBefore watch texts t ⊎ PutBy watch texts t
+  pub taken : now ≡ with_more before (joined texts)
 
 -- all texts were put, before the last delivery, and a beginning of the one that is due now; and the log is right so far, and that of a run which dialled these
 -- names
