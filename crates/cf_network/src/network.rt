@@ -149,6 +149,15 @@ impl<R: Wait + Threads + Copy + Drop> Network<R> {
         }
     }
 
+    // Tells of a peer that has gone, unless it was closed, which was told then.
+    fn tell_gone(&self, delivery: &Delivery) {
+        if let Delivery::Gone(p) = delivery {
+            if !self.is_closed(*p) {
+                let _told = self.tell_change(*p);
+            }
+        }
+    }
+
     /// From now on each peer that comes, goes or is closed is told of at once, with how many are left.
     pub fn tell_at_once(&mut self)
         ensures same { self.new ≡ self.old }
@@ -235,9 +244,7 @@ impl<R: Wait + Threads + Copy + Drop> Wires for Network<R> {
         if let Ok(delivery) = &answer {
             self.asker.note(delivery);
             self.passed.note(delivery);
-            if let Delivery::Gone(p) = delivery {
-                let _told = self.tell_change(*p);
-            }
+            self.tell_gone(delivery);
             self.tell_news();
         }
         answer
