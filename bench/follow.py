@@ -373,6 +373,7 @@ def silent(around):
     sent(signal.SIGKILL, servers[0].run)
     run.ends(6)
     wanted("peer 1: gone" in run.told() and "peer 2: closed: Overdue" in run.told(), "it tells at its end", run.told())
+    wanted(run.told().count("pong; peers left: 1") == 1, "that it was closed is told once", run.told())
     run.check(chain)
     return "once it was closed the texts of new blocks came; standard error says at the end\n" + run.told()
 
