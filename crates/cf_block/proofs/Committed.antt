@@ -10,7 +10,7 @@ use Rattle.cf_bytes.specs.declared.hash.Hash32.{Hash32}
 use Rattle.cf_block.specs.declared.header.Header.{Header}
 use Rattle.cf_block.specs.declared.tx.Block.{Block}
 use Rattle.cf_block.specs.Tx.{IsBlock, tx_spelling}
-use Rattle.cf_block.specs.Merkle.{merkle_root_of, mutated, txids, hashed, NoClash, None64, IsUnmutated}
+use Rattle.cf_block.specs.Merkle.{merkle_root_of, is_mutated, txids, hashed, NoClash, None64, IsUnmutated}
 use Rattle.cf_block.specs.declared.commitment.CommitFault.{CommitFault}
 use Rattle.cf_block.specs.declared.commitment.CommitFault.TheVariants.{Root, Mutated, Tx64}
 use Rattle.cf_block.specs.Views.{bytes_of}
@@ -83,7 +83,7 @@ any_64 (s ∷ rest) h =
 pub passes : (b : Block) → commit_fault b ≡ None → IsCommitted b
 unfolding commit_fault
 passes b e =
-    let all = no_fault (has_root b) (mutated (txids (spelled_txs b))) (list_any has_64 (spelled_txs b)) e in
+    let all = no_fault (has_root b) (is_mutated (txids (spelled_txs b))) (list_any has_64 (spelled_txs b)) e in
     let root = both (not (length b.txs == 0)) (bytes_eq (merkle_root_of (txids (spelled_txs b))) b.header.root.0) all.0 in
     record {
       some = some_there (length b.txs) root.0;
@@ -101,12 +101,12 @@ is_good b c =
     let root : List ℕ = merkle_root_of (txids (spelled_txs b)) in
     let same : bytes_eq root b.header.root.0 ≡ true = ap (λ (r : List ℕ). bytes_eq root r) c.root ∙ bytes_same root in
     let has : has_root b ≡ true = (λ i. there_some (length b.txs) c.some i && same i) in
-    good_by (has_root b) (mutated (txids (spelled_txs b))) (list_any has_64 (spelled_txs b)) has c.unmutated (any_64 (spelled_txs b) c.none64)
+    good_by (has_root b) (is_mutated (txids (spelled_txs b))) (list_any has_64 (spelled_txs b)) has c.unmutated (any_64 (spelled_txs b) c.none64)
 
 -- the same by the hashes that are given
 
 pub fault_is : (b : Block) (ids : List Hash32) (root : List ℕ) (doubled : Bool) → AreTxids ids b.txs → (length ids == 0) ≡ false
-    → root ≡ merkle_root_of (bytes_of ids) → doubled ≡ mutated (bytes_of ids)
+    → root ≡ merkle_root_of (bytes_of ids) → doubled ≡ is_mutated (bytes_of ids)
     → commit_fault b ≡ first_fault (bytes_eq root b.header.root.0) doubled (list_any has_64 (spelled_txs b))
 unfolding commit_fault
 fault_is b ids root doubled are some is twins =
@@ -114,11 +114,11 @@ fault_is b ids root doubled are some is twins =
     let any : not (length b.txs == 0) ≡ true = ap (λ (n : ℕ). not (n == 0)) (sym (ids_length ids b.txs are)) ∙ ap not some in
     let has : has_root b ≡ bytes_eq root b.header.root.0 =
     (λ i. any i && bytes_eq (merkle_root_of (sym theirs i)) b.header.root.0) ∙ ap (λ (r : List ℕ). bytes_eq r b.header.root.0) (sym is) in
-    let same : mutated (txids (spelled_txs b)) ≡ doubled = ap mutated (sym theirs) ∙ sym twins in
+    let same : is_mutated (txids (spelled_txs b)) ≡ doubled = ap is_mutated (sym theirs) ∙ sym twins in
     λ i. first_fault (has i) (same i) (list_any has_64 (spelled_txs b))
 
 pub empty_fault : (b : Block) (ids : List Hash32) → AreTxids ids b.txs → (length ids == 0) ≡ true → commit_fault b ≡ Some Root
 unfolding commit_fault
 empty_fault b ids are none =
     let any : not (length b.txs == 0) ≡ false = ap (λ (n : ℕ). not (n == 0)) (sym (ids_length ids b.txs are)) ∙ ap not none in
-    λ i. first_fault (any i && bytes_eq (merkle_root_of (txids (spelled_txs b))) b.header.root.0) (mutated (txids (spelled_txs b))) (list_any has_64 (spelled_txs b))
+    λ i. first_fault (any i && bytes_eq (merkle_root_of (txids (spelled_txs b))) b.header.root.0) (is_mutated (txids (spelled_txs b))) (list_any has_64 (spelled_txs b))

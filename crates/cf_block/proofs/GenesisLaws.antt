@@ -6,7 +6,7 @@ use Rattle.cf_bytes.specs.Compact.{compact}
 use Rattle.cf_block.specs.Commitment.{IsCommitted}
 use Rattle.cf_block.specs.Genesis.{signing_script, paid_script, first_input, first_output, first_tx, first_block, first_tx_bytes, genesis_hash}
 use Rattle.cf_block.specs.Header.{block_hash_of, header_spelling, genesis_header}
-use Rattle.cf_block.specs.Merkle.{root_within, mutated_within}
+use Rattle.cf_block.specs.Merkle.{root_within, is_mutated_within}
 use Rattle.cf_block.specs.Tx.{IsTx, IsBlock, input_spelling, output_spelling, tx_spelling, txid_of, block_spelling}
 use Rattle.cf_block.proofs.HeaderLaws.{genesis_fits}
 
@@ -48,7 +48,7 @@ unfolding first_block
 block_is = record { header = genesis_fits; some_txs = omega arith; few_txs = omega arith; txs = (tx_fits, tt); short = omega (arith, block_length) }
 
 pub genesis_committed : IsCommitted first_block
-unfolding root_within mutated_within first_block txid_of
+unfolding root_within is_mutated_within first_block txid_of
 genesis_committed = record {
   some = omega arith;
   root = sym txid_is;

@@ -9,7 +9,7 @@ use Rattle.std.proofs.lemmas.List.{map-append, drop-set-lt, length-map, length-t
 use Rattle.std.proofs.lemmas.Grind.{take-set_at}
 use Rattle.cf_bytes.specs.declared.hash.Hash32.{Hash32}
 use Rattle.cf_bytes.specs.Hash.{hash_of}
-use Rattle.cf_block.specs.Merkle.{next_level, has_twins, merkle_root_of, mutated}
+use Rattle.cf_block.specs.Merkle.{next_level, has_twins, merkle_root_of, is_mutated}
 use Rattle.cf_block.specs.Views.{bytes_of}
 
 bytes_of-append : (xs ys : List Hash32) → bytes_of (xs ++ ys) ≡ bytes_of xs ++ bytes_of ys
@@ -88,19 +88,19 @@ or_false false = refl
 
 -- a level's twins are noted, and the level above is left to look at
 pub doubled_more : (old level new : List Hash32) (n n' : ℕ) (noted twins : Bool) → 1 < n → n ≤ length level → n' ≡ (n + 1) / 2 → twins ≡ has_twins (bytes_of (take n level))
-    → bytes_of (take ((n + 1) / 2) new) ≡ next_level (bytes_of (take n level)) → mutated (bytes_of old) ≡ (noted || mutated (bytes_of (take n level)))
-    → mutated (bytes_of old) ≡ ((noted || twins) || mutated (bytes_of (take n' new)))
+    → bytes_of (take ((n + 1) / 2) new) ≡ next_level (bytes_of (take n level)) → is_mutated (bytes_of old) ≡ (noted || is_mutated (bytes_of (take n level)))
+    → is_mutated (bytes_of old) ≡ ((noted || twins) || is_mutated (bytes_of (take n' new)))
 doubled_more old level new n n' noted twins two len next is above so_far =
     let size : length (bytes_of (take n level)) ≡ n = length-bytes_of (take n level) ∙ length-take-le n level len in
-    let here : mutated (bytes_of (take n level)) ≡ (twins || mutated (bytes_of (take n' new))) =
+    let here : is_mutated (bytes_of (take n level)) ≡ (twins || is_mutated (bytes_of (take n' new))) =
     mutated_up (bytes_of (take n level)) (omega (arith, size))
-    ∙ (λ i. (sym is) i || mutated ((sym above) i))
-    ∙ ap (λ k. twins || mutated (bytes_of (take k new))) (sym next) in
-    so_far ∙ ap (λ b. noted || b) here ∙ sym (or_assoc noted twins (mutated (bytes_of (take n' new))))
+    ∙ (λ i. (sym is) i || is_mutated ((sym above) i))
+    ∙ ap (λ k. twins || is_mutated (bytes_of (take k new))) (sym next) in
+    so_far ∙ ap (λ b. noted || b) here ∙ sym (or_assoc noted twins (is_mutated (bytes_of (take n' new))))
 
-pub doubled_end : (old level : List Hash32) (n : ℕ) (noted : Bool) → n ≤ 1 → n ≤ length level → mutated (bytes_of old) ≡ (noted || mutated (bytes_of (take n level)))
-    → noted ≡ mutated (bytes_of old)
+pub doubled_end : (old level : List Hash32) (n : ℕ) (noted : Bool) → n ≤ 1 → n ≤ length level → is_mutated (bytes_of old) ≡ (noted || is_mutated (bytes_of (take n level)))
+    → noted ≡ is_mutated (bytes_of old)
 doubled_end old level n noted one len so_far =
     let size : length (bytes_of (take n level)) ≡ n = length-bytes_of (take n level) ∙ length-take-le n level len in
-    let none : mutated (bytes_of (take n level)) ≡ false = mutated_ends (bytes_of (take n level)) (omega (arith, size)) in
+    let none : is_mutated (bytes_of (take n level)) ≡ false = mutated_ends (bytes_of (take n level)) (omega (arith, size)) in
     sym (so_far ∙ ap (λ b. noted || b) none ∙ or_false noted)

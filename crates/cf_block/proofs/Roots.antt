@@ -8,7 +8,7 @@ use Rattle.cf_bytes.specs.Hash.{hash_of}
 use Rattle.sha2.specs.Sha256.{sha256}
 use Rattle.std.specs.Cmp.Lexicographic.{nat_list_eq_equiv}
 use Rattle.sha2.proofs.Facts256.{length-sha256}
-use Rattle.cf_block.specs.Merkle.{joined_pairs, next_level, has_twins, first_of, root_within, merkle_root_of, mutated_within, mutated, nodes_within, nodes, txids, hashed, Among, NoClash, None64, IsUnmutated}
+use Rattle.cf_block.specs.Merkle.{joined_pairs, next_level, has_twins, first_of, root_within, merkle_root_of, is_mutated_within, is_mutated, nodes_within, nodes, txids, hashed, Among, NoClash, None64, IsUnmutated}
 
 pub length-hash_of : (b : List ℕ) → length (hash_of b) ≡ 32
 unfolding hash_of
@@ -190,18 +190,18 @@ clean_step strings l here above zero two = here
 clean_step strings l here above (suc k) two = above k two
 
 -- what isn't mutated is clean over what is hashed above it
-clean : (strings : List (List ℕ)) (n : ℕ) (l : List (List ℕ)) → length l ≤ suc n → mutated_within n l ≡ false → AllAmong strings (nodes_within n l) → Clean strings l
-unfolding mutated_within nodes_within
+clean : (strings : List (List ℕ)) (n : ℕ) (l : List (List ℕ)) → length l ≤ suc n → is_mutated_within n l ≡ false → AllAmong strings (nodes_within n l) → Clean strings l
+unfolding is_mutated_within nodes_within
 clean strings zero l short h inside = λ k two. absurd (omega (arith, len_short l (omega arith) k))
 clean strings (suc n) l short h inside =
     let len = len_next l in
-    let above : 1 < length l → mutated_within n (next_level l) ≡ false → AllAmong strings (nodes_within n (next_level l)) → Clean strings (next_level l) =
+    let above : 1 < length l → is_mutated_within n (next_level l) ≡ false → AllAmong strings (nodes_within n (next_level l)) → Clean strings (next_level l) =
     λ two. clean strings n (next_level l) (omega (arith, len.1, two)) in
-    elim (nat_le (length l) 1) as (λ b. nat_le (length l) 1 ≡ b → (if b then false else has_twins l || mutated_within n (next_level l)) ≡ false
+    elim (nat_le (length l) 1) as (λ b. nat_le (length l) 1 ≡ b → (if b then false else has_twins l || is_mutated_within n (next_level l)) ≡ false
     → AllAmong strings (if b then [] else joined_pairs l ++ nodes_within n (next_level l)) → Clean strings l) [
       | true ↦ λ one h inside k two. absurd (omega (arith, leb-true (length l) 1 one, len_short l (leb-true (length l) 1 one) k))
       | false ↦ λ more h inside.
-          let none = or_none (has_twins l) (mutated_within n (next_level l)) h in
+          let none = or_none (has_twins l) (is_mutated_within n (next_level l)) h in
           let parts = among_parts strings (joined_pairs l) (nodes_within n (next_level l)) inside in
           clean_step strings l (none.0, parts.0) (above (leb-false (length l) 1 more) none.1 parts.1)
     ] refl h inside
@@ -305,29 +305,29 @@ pub root_ends : (l : List (List ℕ)) → length l ≤ 1 → merkle_root_of l �
 unfolding root_within
 root_ends l short = root_enough (length l) zero l (omega arith) (omega arith)
 
-mutated_enough : (n m : ℕ) (l : List (List ℕ)) → length l ≤ suc n → length l ≤ suc m → mutated_within n l ≡ mutated_within m l
-unfolding mutated_within
+mutated_enough : (n m : ℕ) (l : List (List ℕ)) → length l ≤ suc n → length l ≤ suc m → is_mutated_within n l ≡ is_mutated_within m l
+unfolding is_mutated_within
 mutated_enough zero zero l hn hm = refl
-mutated_enough zero (suc m) l hn hm = sym (ap (λ b. if b then false else has_twins l || mutated_within m (next_level l)) (le-leb (length l) 1 (omega arith)))
-mutated_enough (suc n) zero l hn hm = ap (λ b. if b then false else has_twins l || mutated_within n (next_level l)) (le-leb (length l) 1 (omega arith))
+mutated_enough zero (suc m) l hn hm = sym (ap (λ b. if b then false else has_twins l || is_mutated_within m (next_level l)) (le-leb (length l) 1 (omega arith)))
+mutated_enough (suc n) zero l hn hm = ap (λ b. if b then false else has_twins l || is_mutated_within n (next_level l)) (le-leb (length l) 1 (omega arith))
 mutated_enough (suc n) (suc m) l hn hm =
     let len = len_next l in
-    let above : 1 < length l → mutated_within n (next_level l) ≡ mutated_within m (next_level l) = λ two. mutated_enough n m (next_level l) (omega (arith, len.1, two)) (omega (arith, len.1, two)) in
-    elim (nat_le (length l) 1) as (λ b. nat_le (length l) 1 ≡ b → (if b then false else has_twins l || mutated_within n (next_level l)) ≡ (if b then false else has_twins l || mutated_within m (next_level l))) [
+    let above : 1 < length l → is_mutated_within n (next_level l) ≡ is_mutated_within m (next_level l) = λ two. mutated_enough n m (next_level l) (omega (arith, len.1, two)) (omega (arith, len.1, two)) in
+    elim (nat_le (length l) 1) as (λ b. nat_le (length l) 1 ≡ b → (if b then false else has_twins l || is_mutated_within n (next_level l)) ≡ (if b then false else has_twins l || is_mutated_within m (next_level l))) [
       | true ↦ λ one. refl
       | false ↦ λ more. ap (λ x. has_twins l || x) (above (leb-false (length l) 1 more))
     ] refl
 
-mutated_more : (n : ℕ) (l : List (List ℕ)) → 2 ≤ length l → mutated_within (suc n) l ≡ (has_twins l || mutated_within n (next_level l))
-unfolding mutated_within
-mutated_more n l two = ap (λ b. if b then false else has_twins l || mutated_within n (next_level l)) (lt-leb (length l) 1 (omega arith))
+mutated_more : (n : ℕ) (l : List (List ℕ)) → 2 ≤ length l → is_mutated_within (suc n) l ≡ (has_twins l || is_mutated_within n (next_level l))
+unfolding is_mutated_within
+mutated_more n l two = ap (λ b. if b then false else has_twins l || is_mutated_within n (next_level l)) (lt-leb (length l) 1 (omega arith))
 
-pub mutated_up : (l : List (List ℕ)) → 2 ≤ length l → mutated l ≡ (has_twins l || mutated (next_level l))
+pub mutated_up : (l : List (List ℕ)) → 2 ≤ length l → is_mutated l ≡ (has_twins l || is_mutated (next_level l))
 mutated_up l two =
     let len = len_next l in
     mutated_enough (length l) (suc (length l)) l (omega arith) (omega arith) ∙ mutated_more (length l) l two
     ∙ ap (λ x. has_twins l || x) (mutated_enough (length l) (length (next_level l)) (next_level l) (omega (arith, len.1)) (omega arith))
 
-pub mutated_ends : (l : List (List ℕ)) → length l ≤ 1 → mutated l ≡ false
-unfolding mutated_within
+pub mutated_ends : (l : List (List ℕ)) → length l ≤ 1 → is_mutated l ≡ false
+unfolding is_mutated_within
 mutated_ends l short = mutated_enough (length l) zero l (omega arith) (omega arith)

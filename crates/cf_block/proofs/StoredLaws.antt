@@ -17,7 +17,7 @@ use Rattle.cf_block.specs.declared.tx.Block.{Block}
 use Rattle.cf_block.specs.Header.{header_at, header_spelling}
 use Rattle.cf_block.specs.Tx.{IsInput, IsOutput, IsTx, IsBlock, max_count, max_block, input_spelling, output_spelling, tx_spelling, block_spelling}
 use Rattle.cf_block.specs.Reading.{of_cut, of_header, u32_at, script_at, input_at, output_at, count_at, tx_fields_at, to_end, placed}
-use Rattle.cf_block.specs.Stored.{Stack, IsStack, stack_spelling, has_item, extended_spelling, IsStoredTx, AreStored, IsStored, passed, is_extended, begins_marked, stack_at, some_item, witness_at, extended_at, stored_tx_at, short_stored, stored_fields_at, stored_block_at}
+use Rattle.cf_block.specs.Stored.{Stack, IsStack, stack_spelling, has_item, extended_spelling, IsStoredTx, AreStored, IsStored, skip, is_extended, begins_marked, stack_at, some_item, witness_at, extended_at, stored_tx_at, short_stored, stored_fields_at, stored_block_at}
 use Rattle.cf_block.proofs.Again.{count_again, tx_fields_again}
 use Rattle.cf_block.proofs.HeaderLaws.{header_again}
 use Rattle.cf_block.proofs.HeaderTaken.{header_taken}
@@ -95,10 +95,10 @@ extended_of : (t : Tx) (stacks : List Stack) (b0 b1 b2 b3 b4 b5 b6 b7 b8 : List 
     → witness_at (length t.inputs) b6 ≡ Ok (stacks, b7) → u32_at b7 ≡ Ok (t.lock_time, b8) → extended_at b0 ≡ Ok (t, b8)
 unfolding extended_at
 extended_of t stacks b0 b1 b2 b3 b4 b5 b6 b7 b8 m e0 e1 e2 e3 e4 e5 e6 e7 =
-    bind_is (of_cut (int_at w32 b0)) (t.version, b1) _ e0 ∙ bind_is (passed (of_cut (bytes_at 2 b1))) (tt, b2) _ (ap passed e1)
+    bind_is (of_cut (int_at w32 b0)) (t.version, b1) _ e0 ∙ bind_is (skip (of_cut (bytes_at 2 b1))) (tt, b2) _ (ap skip e1)
     ∙ bind_is (count_at NoInput b2) (length t.inputs, b3) _ e2 ∙ bind_is (list_at input_at (length t.inputs) b3) (t.inputs, b4) _ e3
     ∙ bind_is (count_at NoOutput b4) (length t.outputs, b5) _ e4 ∙ bind_is (list_at output_at (length t.outputs) b5) (t.outputs, b6) _ e5
-    ∙ bind_is (passed (witness_at (length t.inputs) b6)) (tt, b7) _ (ap passed e6) ∙ bind_is (u32_at b7) (t.lock_time, b8) _ e7
+    ∙ bind_is (skip (witness_at (length t.inputs) b6)) (tt, b7) _ (ap skip e6) ∙ bind_is (u32_at b7) (t.lock_time, b8) _ e7
 
 extended_again : (t : Tx) (stacks : List Stack) (more : List ℕ) → IsTx t → length stacks ≡ length t.inputs → AllByRecursion IsStack stacks → has_item stacks ≡ true
     → (extended_at (extended_spelling t stacks ++ more) ≡ Ok (t, more)) × (is_extended (extended_spelling t stacks ++ more) ≡ true)
@@ -146,7 +146,7 @@ marked_after bytes (a ∷ b ∷ c ∷ d ∷ []) rest len is marked = sym (ap is_
 marked_after bytes (a ∷ b ∷ c ∷ d ∷ x ∷ xs) rest len is marked = absurd (omega (arith, len))
 
 -- what was passed over was read
-was_passed : {X E : Type 0} (r : Read X E) (after : Unit {0} × List ℕ) → passed r ≡ Ok after → (x : X) × (r ≡ Ok (x, after.1))
+was_passed : {X E : Type 0} (r : Read X E) (after : Unit {0} × List ℕ) → skip r ≡ Ok after → (x : X) × (r ≡ Ok (x, after.1))
 was_passed {X} {E} (Ok x) after h =
     let made : Read (Unit {0}) E = Ok (tt, x.1) in
     let same : (tt, x.1) ≡ after = value_of (tt, x.1) after made refl h in
@@ -199,13 +199,13 @@ fields_of : (bytes : List ℕ) (t : Tx) (rest : List ℕ) → extended_at bytes 
 unfolding extended_at
 fields_of bytes t rest e =
     let v = bind_ok (of_cut (int_at w32 bytes)) _ (t, rest) e in
-    let k0 = bind_ok (passed (of_cut (bytes_at 2 v.0.1))) _ (t, rest) v.2 in
+    let k0 = bind_ok (skip (of_cut (bytes_at 2 v.0.1))) _ (t, rest) v.2 in
     let k = was_passed (of_cut (bytes_at 2 v.0.1)) k0.0 k0.1 in
     let n = bind_ok (count_at NoInput k0.0.1) _ (t, rest) k0.2 in
     let i = bind_ok (list_at input_at n.0.0 n.0.1) _ (t, rest) n.2 in
     let m = bind_ok (count_at NoOutput i.0.1) _ (t, rest) i.2 in
     let o = bind_ok (list_at output_at m.0.0 m.0.1) _ (t, rest) m.2 in
-    let w0 = bind_ok (passed (witness_at n.0.0 o.0.1)) _ (t, rest) o.2 in
+    let w0 = bind_ok (skip (witness_at n.0.0 o.0.1)) _ (t, rest) o.2 in
     let w = was_passed (witness_at n.0.0 o.0.1) w0.0 w0.1 in
     let l = bind_ok (u32_at w0.0.1) _ (t, rest) w0.2 in
     let read : Tx = record { version = v.0.0; inputs = i.0.0; outputs = o.0.0; lock_time = l.0.0 } in

@@ -11,7 +11,7 @@ use Rattle.cf_block.specs.declared.tx.Tx.{Tx}
 use Rattle.cf_block.specs.declared.tx.Block.{Block}
 use Rattle.cf_block.specs.Tx.{tx_spelling, txid_of}
 use Rattle.cf_block.specs.Views.{bytes_of}
-use Rattle.cf_block.specs.Merkle.{merkle_root_of, mutated, txids, None64}
+use Rattle.cf_block.specs.Merkle.{merkle_root_of, is_mutated, txids, None64}
 
 -- these are the transactions' hashes, in order
 abbrev pub AreTxids : List Hash32 → List Tx → Type 0
@@ -25,7 +25,7 @@ spelled_txs b = map tx_spelling b.txs
 pub record IsCommitted (b : Block) : Type 0 where
   pub some : 0 < length b.txs
   pub root : b.header.root.0 ≡ merkle_root_of (txids (spelled_txs b))
-  pub unmutated : mutated (txids (spelled_txs b)) ≡ false
+  pub unmutated : is_mutated (txids (spelled_txs b)) ≡ false
   pub none64 : None64 (spelled_txs b)
 
 -- these bytes are 64: a transaction of so many can be read as a node of the tree
@@ -44,7 +44,7 @@ first_fault root doubled long =
 
 -- the first of the three that a block breaks
 unfoldable pub commit_fault : Block → Option CommitFault
-commit_fault b = first_fault (has_root b) (mutated (txids (spelled_txs b))) (list_any has_64 (spelled_txs b))
+commit_fault b = first_fault (has_root b) (is_mutated (txids (spelled_txs b))) (list_any has_64 (spelled_txs b))
 
 -- an answer tells this fault: it is Ok where there is none; want of memory may come in place of either
 abbrev pub FindsFault : Option CommitFault → Result (Unit {0}) (Refused CommitFault) → Type 0

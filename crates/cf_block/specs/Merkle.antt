@@ -34,17 +34,17 @@ abbrev pub merkle_root_of : List (List ℕ) → List ℕ
 merkle_root_of level = root_within (length level) level
 
 -- some level has twins
-unfoldable pub mutated_within : ℕ → List (List ℕ) → Bool
-mutated_within zero level = false
-mutated_within (suc n) level = if nat_le (length level) 1 then false else has_twins level || mutated_within n (next_level level)
+unfoldable pub is_mutated_within : ℕ → List (List ℕ) → Bool
+is_mutated_within zero level = false
+is_mutated_within (suc n) level = if nat_le (length level) 1 then false else has_twins level || is_mutated_within n (next_level level)
 
 -- on some level two hashes that are both there and are paired are equal, so another list has the same root (CVE-2012-2459)
-abbrev pub mutated : List (List ℕ) → Bool
-mutated level = mutated_within (length level) level
+abbrev pub is_mutated : List (List ℕ) → Bool
+is_mutated level = is_mutated_within (length level) level
 
 -- a list of hashes is so: another one has the same root
 abbrev pub IsMutated : List (List ℕ) → Type 0
-IsMutated level = mutated level ≡ true
+IsMutated level = is_mutated level ≡ true
 
 -- all strings that are hashed above a level
 unfoldable pub nodes_within : ℕ → List (List ℕ) → List (List ℕ)
@@ -80,5 +80,5 @@ None64 (s ∷ rest) = (length s ≢ 64) × None64 rest
 -- transactions that may stand under a root: there is one, their txids aren't mutated, and none has 64 bytes
 pub record IsUnmutated (spelled : List (List ℕ)) : Type 0 where
   pub some : 0 < length spelled
-  pub unmutated : mutated (txids spelled) ≡ false
+  pub unmutated : is_mutated (txids spelled) ≡ false
   pub none64 : None64 spelled

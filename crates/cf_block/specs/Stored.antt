@@ -95,19 +95,19 @@ unfoldable pub witness_at : ℕ → List ℕ → Read (List Stack) BlockFaultKin
 witness_at n bytes = list_at stack_at n bytes >>= some_item bytes
 
 -- what is read and not kept
-abbrev pub passed : {X E : Type 0} → Read X E → Read (Unit {0}) E
-passed read = read >>= λ x. Ok (tt, x.1)
+abbrev pub skip : {X E : Type 0} → Read X E → Read (Unit {0}) E
+skip read = read >>= λ x. Ok (tt, x.1)
 
 -- a transaction with witnesses, which aren't kept
 unfoldable pub extended_at : List ℕ → Read Tx BlockFaultKind
 extended_at bytes = do
   version ← of_cut (int_at w32 bytes)
-  marker ← passed (of_cut (bytes_at 2 version.1))
+  marker ← skip (of_cut (bytes_at 2 version.1))
   in_count ← count_at NoInput marker.1
   inputs ← list_at input_at in_count.0 in_count.1
   out_count ← count_at NoOutput inputs.1
   outputs ← list_at output_at out_count.0 out_count.1
-  witness ← passed (witness_at in_count.0 outputs.1)
+  witness ← skip (witness_at in_count.0 outputs.1)
   lock_time ← u32_at witness.1
   Ok (record { version = version.0; inputs = inputs.0; outputs = outputs.0; lock_time = lock_time.0 }, lock_time.1)
 
@@ -145,7 +145,7 @@ has_one read = read >>= λ x. Ok (is_some_stack x.0, x.1)
 unfoldable pub seen_stack_at : List ℕ → Read Bool BlockFaultKind
 seen_stack_at bytes = do
   count ← of_cut (compact_at bytes)
-  items ← passed (list_at script_at count.0 count.1)
+  items ← skip (list_at script_at count.0 count.1)
   Ok (nat_lt 0 count.0, items.1)
 
 -- whether some stack has an item, where some one before had

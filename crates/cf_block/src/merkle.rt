@@ -1,7 +1,7 @@
 //! Merkle roots on a lent level.
 ghost use Rattle.std.specs.Prelude.{◌≡◌, ◌+◌, ◌*◌, ◌/◌, ◌++◌, ◌<◌, ◌≤◌, ℕ, length, take, map};
 ghost use Rattle.cf_bytes.specs.{hash_of};
-ghost use Rattle.cf_block.specs.Merkle.{next_level, has_twins as twins_of, merkle_root_of, mutated};
+ghost use Rattle.cf_block.specs.Merkle.{next_level, has_twins as twins_of, merkle_root_of, is_mutated as mutated_in};
 ghost use Rattle.cf_block.specs.Views.{bytes_of};
 
 use cf_bytes::Hash32;
@@ -29,7 +29,7 @@ pub fn merkle_root(level: &mut [Hash32]) -> Hash32
 /// the same root. The level holds at least one hash, and is spent. It takes no memory.
 pub fn is_mutated(level: &mut [Hash32]) -> bool
     requires { 0 < length level.old }
-    ensures { result ≡ mutated (bytes_of level.old) }
+    ensures { result ≡ mutated_in (bytes_of level.old) }
 {
     tree_over(level).is_doubled
 }
@@ -38,7 +38,7 @@ pub fn is_mutated(level: &mut [Hash32]) -> bool
 pub(crate) fn tree_over(level: &mut [Hash32]) -> Tree
     requires { 0 < length level.old }
     ensures root { result.root.0 ≡ merkle_root_of (bytes_of level.old) }
-    ensures doubled { result.is_doubled ≡ mutated (bytes_of level.old) }
+    ensures doubled { result.is_doubled ≡ mutated_in (bytes_of level.old) }
 {
     let mut n = level.len();
     let mut is_doubled = false;

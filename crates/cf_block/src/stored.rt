@@ -4,7 +4,7 @@ ghost use Rattle.std.specs.List.{AllByRecursion};
 ghost use Rattle.cf_bytes.specs.{Reads, Gives, bytes_at, compact_at, list_at};
 ghost use Rattle.cf_block.specs.Tx.{IsTx, IsBlock};
 ghost use Rattle.cf_block.specs.Reading.{of_cut, script_at, GivesAll};
-ghost use Rattle.cf_block.specs.Stored.{is_extended, stack_at, witness_at, extended_at, stored_tx_at, stored_fields_at, stored_block_at, IsStored, passed, seen_stack_at, seen_item};
+ghost use Rattle.cf_block.specs.Stored.{is_extended, stack_at, witness_at, extended_at, stored_tx_at, stored_fields_at, stored_block_at, IsStored, skip, seen_stack_at, seen_item};
 
 use crate::fault::{BlockFault, BlockFaultKind};
 use crate::parse::{
@@ -29,7 +29,7 @@ fn has_marker(bytes: &[u8]) -> bool
 // Passes over a stack's items.
 #[tactic(auto, using(crate::proofs::Passing::passes))]
 fn pass_items(count: u64, cut: &mut Cut) -> Result<(), BlockFaultKind>
-    ensures { Reads (λ x. x) (passed (list_at script_at count cut.old)) result cut.new }
+    ensures { Reads (λ x. x) (skip (list_at script_at count cut.old)) result cut.new }
 {
     for _ in 0..count {
         read_counted(cut)?;
@@ -68,7 +68,7 @@ fn pass_stacks(count: u64, cut: &mut Cut) -> Result<bool, BlockFaultKind>
 // Passes over the stacks of so many inputs, which may not all be empty.
 #[tactic(auto, using(crate::proofs::Passing::witnesses))]
 fn pass_witness(count: u64, cut: &mut Cut) -> Result<(), BlockFaultKind>
-    ensures { Reads (λ x. x) (passed (witness_at count cut.old)) result cut.new }
+    ensures { Reads (λ x. x) (skip (witness_at count cut.old)) result cut.new }
 {
     let start = cut.rest();
     if !pass_stacks(count, cut)? {
@@ -80,7 +80,7 @@ fn pass_witness(count: u64, cut: &mut Cut) -> Result<(), BlockFaultKind>
 
 // Passes over the zero byte and the one.
 fn pass_marker(cut: &mut Cut) -> Result<(), BlockFaultKind>
-    ensures { Reads (λ x. x) (passed (of_cut (bytes_at 2 cut.old))) result cut.new }
+    ensures { Reads (λ x. x) (skip (of_cut (bytes_at 2 cut.old))) result cut.new }
 {
     cut.bytes(2)?;
     Ok(())

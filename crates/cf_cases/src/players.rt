@@ -7,7 +7,7 @@ use crate::chains::chain_in;
 use crate::fields::{bytes_in, put_digits, put_word};
 use cf_block::Script;
 use cf_bytes::{Listed, PeerNo};
-use cf_played::{Kind, Played};
+use cf_played::{Manner, Played};
 use cf_wires::{Delivery, Wires};
 use std::alloc::Global;
 use std::thread::Threads;
@@ -23,11 +23,11 @@ fn scripts_in(alloc: Global, text: &str) -> Option<Listed<Script>> {
     Some(scripts)
 }
 
-fn kind_in(alloc: Global, text: &str) -> Option<Kind> {
+fn kind_in(alloc: Global, text: &str) -> Option<Manner> {
     match text {
-        "honest" => Some(Kind::Honest),
-        "silent" => Some(Kind::Silent),
-        other => Some(Kind::Omits(scripts_in(alloc, other.strip_prefix("omits:")?)?)),
+        "honest" => Some(Manner::Honest),
+        "silent" => Some(Manner::Silent),
+        other => Some(Manner::Omits(scripts_in(alloc, other.strip_prefix("omits:")?)?)),
     }
 }
 

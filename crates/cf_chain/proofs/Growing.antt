@@ -6,7 +6,7 @@ use Rattle.cf_block.specs.declared.tx.Block.{Block}
 use Rattle.cf_msg.specs.declared.msg.Msg.{Msg}
 use Rattle.cf_msg.specs.declared.msg.Msg.TheVariants.{Version}
 use Rattle.cf_chain.specs.Serve.{is_version}
-use Rattle.cf_chain.specs.Grow.{Mark, NotMet, Told, mark_at, announcement, top_hash, answered, GrowAnswer, grow_answer, IsToldFirst, Service, served_all, Asking, asked_by, answers_over, IsAnsweredAlone}
+use Rattle.cf_chain.specs.Grow.{Mark, NotMet, Told, mark_at, announcement, top_hash, growing_answers, GrowAnswer, grow_answer, IsToldFirst, Service, served_all, Asking, asked_by, answers_over, IsAnsweredAlone}
 
 pub alone : (now : ℤ) (nonce : ℕ) (fits : List Block → Block → Bool) (blocks : List Block) (asked : List Asking) (c : ℕ)
     → IsAnsweredAlone now nonce fits blocks asked c
@@ -37,9 +37,9 @@ none_before now nonce blocks (Version version services time to from number agent
 none_before now nonce blocks m is = refl
 
 pub at_mark : (now : ℤ) (nonce : ℕ) (blocks : List Block) (m : Msg)
-    → (grow_answer now nonce blocks (mark_at blocks) m).replies ≡ answered now nonce blocks true m
+    → (grow_answer now nonce blocks (mark_at blocks) m).replies ≡ growing_answers now nonce blocks true m
 at_mark now nonce blocks m =
-    ap (λ (b : Bool). (if b then announcement (top_hash blocks) ∷ [] else []) ++ answered now nonce blocks true m)
+    ap (λ (b : Bool). (if b then announcement (top_hash blocks) ∷ [] else []) ++ growing_answers now nonce blocks true m)
     (le-ltb (length blocks) (length blocks) (omega arith))
 
 pub told_of : (now : ℤ) (nonce height : ℕ) (hash : List ℕ) (blocks : List Block) (m : Msg) → height < length blocks
@@ -47,6 +47,6 @@ pub told_of : (now : ℤ) (nonce height : ℕ) (hash : List ℕ) (blocks : List 
 told_of now nonce height hash blocks m lt =
     let up = lt-ltb height (length blocks) lt in
     record {
-      replies = ap (λ (b : Bool). (if b then announcement (top_hash blocks) ∷ [] else []) ++ answered now nonce blocks true m) up;
+      replies = ap (λ (b : Bool). (if b then announcement (top_hash blocks) ∷ [] else []) ++ growing_answers now nonce blocks true m) up;
       mark = ap (λ (b : Bool). if b then mark_at blocks else Told height hash) up;
     }

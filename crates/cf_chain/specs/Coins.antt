@@ -43,11 +43,11 @@ abbrev pub coins_after : CoinMap → List Block → CoinMap
 coins_after coins blocks = fold after_block coins blocks
 
 -- the coins that these names take out, in order
-abbrev pub spent : CoinMap → List OutPoint → List Output
-spent coins [] = []
-spent coins (p ∷ ps) = option_to_list (get coins p) ++ spent (remove coins p) ps
+abbrev pub spent_outputs : CoinMap → List OutPoint → List Output
+spent_outputs coins [] = []
+spent_outputs coins (p ∷ ps) = option_to_list (get coins p) ++ spent_outputs (remove coins p) ps
 
 -- the coins that transactions spend, in order
 abbrev pub spent_by : CoinMap → List Tx → List Output
 spent_by coins [] = []
-spent_by coins (t ∷ ts) = spent coins (spends_of t) ++ spent_by (after_tx coins t) ts
+spent_by coins (t ∷ ts) = spent_outputs coins (spends_of t) ++ spent_by (after_tx coins t) ts

@@ -28,9 +28,9 @@ abbrev pub unknown_entry : List Block → Inventory → List Inventory
 unknown_entry blocks entry = if is_unknown blocks entry then entry ∷ [] else []
 
 -- the entries of an `inv` that name blocks that aren't in the chain, in order; none before the asker's version
-abbrev pub wanted : List Block → Bool → Msg → List Inventory
-wanted blocks true (Inv entries) = flat_map (unknown_entry blocks) entries
-wanted blocks met m = []
+abbrev pub wanted_entries : List Block → Bool → Msg → List Inventory
+wanted_entries blocks true (Inv entries) = flat_map (unknown_entry blocks) entries
+wanted_entries blocks met m = []
 
 -- one `getdata` for these entries, where there are any
 abbrev pub asked_for : List Inventory → List Msg
@@ -38,8 +38,8 @@ asked_for [] = []
 asked_for (entry ∷ more) = GetData (entry ∷ more) ∷ []
 
 -- what is answered by this chain, the announcement apart; met tells whether a version came before
-abbrev pub answered : ℤ → ℕ → List Block → Bool → Msg → List Msg
-answered now nonce blocks met m = asked_for (wanted blocks met m) ++ replies_to now nonce blocks met m
+abbrev pub growing_answers : ℤ → ℕ → List Block → Bool → Msg → List Msg
+growing_answers now nonce blocks met m = asked_for (wanted_entries blocks met m) ++ replies_to now nonce blocks met m
 
 -- what the asker was told of the chain: nothing before its version; then the height and the hash of the tip that it was told of
 -- last
@@ -74,13 +74,13 @@ pub record GrowAnswer : Type 0 where
 -- a message is answered: a tip above the mark is told first, and then comes what is answered by this chain
 abbrev pub grow_answer : ℤ → ℕ → List Block → Mark → Msg → GrowAnswer
 grow_answer now nonce blocks mark m = record {
-  replies = told_first blocks mark ++ answered now nonce blocks (is_met mark) m;
+  replies = told_first blocks mark ++ growing_answers now nonce blocks (is_met mark) m;
   mark = marked blocks mark m;
 }
 
 -- the tip is told first, and the asker's mark is the tip then
 pub record IsToldFirst (now : ℤ) (nonce : ℕ) (blocks : List Block) (answer : GrowAnswer) (m : Msg) : Type 0 where
-  pub replies : answer.replies ≡ announcement (top_hash blocks) ∷ answered now nonce blocks true m
+  pub replies : answer.replies ≡ announcement (top_hash blocks) ∷ growing_answers now nonce blocks true m
   pub mark : answer.mark ≡ mark_at blocks
 
 -- ---- a chain that many ask, and that grows

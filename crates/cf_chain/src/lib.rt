@@ -7,7 +7,7 @@ ghost use Rattle.cf_block.specs.declared.tx.Block.{Block};
 ghost use Rattle.cf_msg.specs.declared.msg.Msg.{Msg};
 ghost use Rattle.cf_msg.specs.declared.msg.Msg.TheVariants.{GetHeaders, Headers, GetCfilters, GetCfheaders, GetCfcheckpt};
 ghost use Rattle.cf_chain.specs.Filters.{filter_at};
-ghost use Rattle.cf_chain.specs.Grow.{Asking, IsAnsweredAlone, IsToldFirst, NotMet, Told, answered, grow_answer, mark_at};
+ghost use Rattle.cf_chain.specs.Grow.{Asking, IsAnsweredAlone, IsToldFirst, NotMet, Told, growing_answers, grow_answer, mark_at};
 ghost use Rattle.cf_chain.specs.Heights.{block_height};
 ghost use Rattle.cf_chain.specs.Serve.{reply_to, replies_to, is_version, cfilter_of};
 
@@ -51,7 +51,7 @@ pub fn laws_of_growing()
     ensures before { (now : ℤ) (nonce : ℕ) (blocks : List Block) (m : Msg) → is_version m ≡ false
         → (grow_answer now nonce blocks NotMet m).replies ≡ [] }
     ensures at_mark { (now : ℤ) (nonce : ℕ) (blocks : List Block) (m : Msg)
-        → (grow_answer now nonce blocks (mark_at blocks) m).replies ≡ answered now nonce blocks true m }
+        → (grow_answer now nonce blocks (mark_at blocks) m).replies ≡ growing_answers now nonce blocks true m }
     ensures told { (now : ℤ) (nonce height : ℕ) (hash : List ℕ) (blocks : List Block) (m : Msg) → height < length blocks
         → IsToldFirst now nonce blocks (grow_answer now nonce blocks (Told height hash) m) m }
 {}

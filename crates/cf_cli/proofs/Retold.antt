@@ -19,7 +19,7 @@ use Rattle.cf_input.specs.Lines.{lines_of, read_lines, bytes_of_hex}
 use Rattle.cf_input.specs.LineLaws.{IsLine, AreLines, ended}
 use Rattle.cf_input.specs.Name.{is_name, is_printable}
 use Rattle.cf_input.specs.Number.{is_digit, number_within}
-use Rattle.cf_input.specs.SessionFile.{word_of, rest_of, dial_of, peer_of, known, got_bytes, got_of, ticked, delivery_of, taken_by, at_place, line_after, lines_in, dialled, session_of}
+use Rattle.cf_input.specs.SessionFile.{word_of, rest_of, dial_of, peer_of, known, got_bytes, got_of, ticked, delivery_of, with_line_by, at_place, line_after, lines_in, dialled, session_of}
 use Rattle.cf_input.specs.declared.session.SessionCause.{SessionCause}
 use Rattle.cf_input.specs.declared.session.SessionCause.TheVariants.{ManyDials, BadLine}
 use Rattle.cf_input.specs.declared.session.SessionFault.{SessionFault}
@@ -204,7 +204,7 @@ isnt_full n lt = by (nat_le 8 n) refl where
 
 dial_step : (done : List Dial) (d : Dial) → length done < 8 → is_name d.name ≡ true → line_after (script done []) (dial_row d) ≡ Ok (script (done ++ d ∷ []) [])
 dial_step done d room named =
-    ap (λ (o : Option Dial). at_place (lines_in (script done []) + 1) (taken_by (script done []) (dial_row d) o)) (dial_again d.answered d.name named)
+    ap (λ (o : Option Dial). at_place (lines_in (script done []) + 1) (with_line_by (script done []) (dial_row d) o)) (dial_again d.answered d.name named)
     ∙ ap (λ (t : Bool). at_place (lines_in (script done []) + 1) (if t then Err ManyDials else Ok (script (done ++ d ∷ []) []))) (isnt_full (length done) room)
 
 read_dials : (done ds : List Dial) (rest : List (List ℕ)) → length done + length ds ≤ 8 → AreNames ds
@@ -219,7 +219,7 @@ delivery_step : (d : Dial) (ds : List Dial) (done : List Delivery) (e : Delivery
     → line_after (script (d ∷ ds) done) (row_of e) ≡ Ok (script (d ∷ ds) (done ++ e ∷ []))
 delivery_step d ds done e few is =
     let s = script (d ∷ ds) done in
-    ap (λ (o : Option Dial). at_place (lines_in s + 1) (taken_by s (row_of e) o)) (no_dial e (length (d ∷ ds)) is)
+    ap (λ (o : Option Dial). at_place (lines_in s + 1) (with_line_by s (row_of e) o)) (no_dial e (length (d ∷ ds)) is)
     ∙ ap (λ (r : Result Delivery SessionCause). at_place (lines_in s + 1) (r >>= λ x. Ok (script (d ∷ ds) (done ++ x ∷ [])))) (delivery_again (length (d ∷ ds)) e few is)
 
 read_deliveries : (d : Dial) (ds : List Dial) (done more : List Delivery) → length (d ∷ ds) ≤ 8 → AreOfSession (length (d ∷ ds)) more

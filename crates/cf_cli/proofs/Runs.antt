@@ -19,7 +19,7 @@ use Rattle.cf_run.specs.Texts.{IsOver}
 use Rattle.cf_run.specs.Whole.{EndsWithin, IsOutcome}
 use Rattle.cf_peer.specs.Asking.{is_open, is_idle, request}
 use Rattle.cf_wires.specs.Log.{Log, Tally, Told}
-use Rattle.cf_peer.specs.Trail.{Trail, trail, connected, ready}
+use Rattle.cf_peer.specs.Trail.{Trail, trail, is_connected, ready}
 use Rattle.cf_scan.specs.declared.history.Entry.{Entry}
 use Rattle.cf_scan.specs.HistoryText.{history_text}
 use Rattle.cf_scan.specs.Scan.{scan_of}
@@ -45,7 +45,7 @@ ended_not_quiet log why quiet = busy_not_quiet why.0 why.1.1 (λ p. subst (λ (l
 
 -- a run doesn't end for want of peers where somebody is connected
 pub somebody_left : (end : End) (log : Log) (p : ℕ) → IsEnd end log → IsConnected log p → end ≢ HasNoPeers
-somebody_left end log p why here is = let nobody : IsEnd HasNoPeers log = subst (λ (e : End). IsEnd e log) is why in both_ways (connected (trail log p)) (nobody p) here
+somebody_left end log p why here is = let nobody : IsEnd HasNoPeers log = subst (λ (e : End). IsEnd e log) is why in both_ways (is_connected (trail log p)) (nobody p) here
 
 settles : (end : End) (status : Status) (recorded : Bool) (before after : Option (List ℕ)) (text : List ℕ) (log : Log) → IsAnswerOf end status before after text → IsEnd end log → end ≢ HasNoPeers → IsQuiet log → Settles status recorded
 settles end Done recorded before after text log answer why somebody quiet = tt
@@ -99,7 +99,7 @@ quiet_once_synced : (end : End) (log : Log) → IsEnd end log → end ≡ IsSync
 quiet_once_synced end log why is = let synced : IsEnd IsSynced log = subst (λ (e : End). IsEnd e log) is why in synced.0
 
 -- nothing is open to who isn't connected
-off_not_open : (t : Trail) → connected t ≡ false → is_open t ≡ false
+off_not_open : (t : Trail) → is_connected t ≡ false → is_open t ≡ false
 off_not_open t off = ap (λ (b : Bool). b && (not (ready t) || not (is_idle (request t)))) off
 
 -- a run that ended so was over

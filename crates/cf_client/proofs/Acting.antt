@@ -21,7 +21,7 @@ use Rattle.cf_peer.specs.declared.peer.Peer.{Peer}
 use Rattle.cf_peer.specs.declared.peer.Range.{Range}
 use Rattle.cf_peer.specs.Acts.{bytes_of, IsSendable}
 use Rattle.cf_wires.specs.Log.{Log}
-use Rattle.cf_peer.specs.Trail.{Trail, IsClientVersion, asks, part_of, trail, connected, own, Asked}
+use Rattle.cf_peer.specs.Trail.{Trail, IsClientVersion, asks, part_of, trail, is_connected, own, Asked}
 use Rattle.cf_wires.specs.declared.event.Event.TheVariants.{Sent}
 use Rattle.cf_peer.specs.Asking.{FiltersOpen, NothingOpen, blocks_from, claims_asked, filters_asked, request}
 use Rattle.cf_peer.specs.Peer.{Holds, heard_out, wants, is_idle_peer, asked_for_headers, asked_for_claims, asked_for_filters, asked_for_block}
@@ -140,7 +140,7 @@ seen_same before after same =
 -- ---- the chain that is kept of a peer
 
 -- the chain that is kept of a connected peer is its own
-pub own_tracked : (s : Seen) (log : Log) (p : ℕ) → Tracks s log → connected (trail log p) ≡ true → chain_at s p ≡ own (trail log p)
+pub own_tracked : (s : Seen) (log : Log) (p : ℕ) → Tracks s log → is_connected (trail log p) ≡ true → chain_at s p ≡ own (trail log p)
 own_tracked s log p tracks on = ap (λ (o : Option Chain). unwrap_or o []) (tracks.kept p ∙ ap (λ b. if b then Some (own (trail log p)) else None) on)
 
 -- ---- a peer is closed

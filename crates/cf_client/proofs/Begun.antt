@@ -2,7 +2,7 @@
 use Rattle.std.proofs.Common.{◌≡◌, ℕ, List, [], true, false, refl}
 use Rattle.std.proofs.lemmas.Bool.{both_ways}
 use Rattle.cf_peer.specs.declared.mode.Mode.{Mode}
-use Rattle.cf_peer.specs.Trail.{Part, connected, part_of}
+use Rattle.cf_peer.specs.Trail.{Part, is_connected, part_of}
 use Rattle.cf_hear.specs.Seen.{Seen}
 use Rattle.cf_place.specs.declared.place.Place.{Place}
 use Rattle.cf_place.specs.declared.place.Place.TheVariants.{Here, Lost}
@@ -11,14 +11,14 @@ use Rattle.cf_client.specs.Settled.{AreEntered, AreSettled, IsAskedThrough}
 use Rattle.cf_client.proofs.Settled.{asked_busy}
 
 -- who isn't connected is to be asked nothing
-off_settled : (mode : Mode) (place : Place) (part : Part) → connected part.trail ≡ false → Fits place part
+off_settled : (mode : Mode) (place : Place) (part : Part) → is_connected part.trail ≡ false → Fits place part
     → is_settled mode place ≡ true
-off_settled mode (Here peer) part off keeps = absurd (both_ways (connected part.trail) off keeps.holds.on)
+off_settled mode (Here peer) part off keeps = absurd (both_ways (is_connected part.trail) off keeps.holds.on)
 off_settled mode (Lost loss) part off lost = refl
 
-off_through : (place : Place) (part : Part) (s : Seen) (p : ℕ) → connected part.trail ≡ false → Fits place part
+off_through : (place : Place) (part : Part) (s : Seen) (p : ℕ) → is_connected part.trail ≡ false → Fits place part
     → IsAskedThrough place s p
-off_through (Here peer) part s p off keeps = absurd (both_ways (connected part.trail) off keeps.holds.on)
+off_through (Here peer) part s p off keeps = absurd (both_ways (is_connected part.trail) off keeps.holds.on)
 off_through (Lost loss) part s p off lost = asked_busy (Lost loss) s p refl
 
 -- so it is settled in either mode

@@ -11,7 +11,7 @@ use Rattle.cf_msg.specs.declared.msg.Msg.{Msg}
 use Rattle.cf_peer.specs.declared.mode.Mode.{Mode}
 use Rattle.cf_peer.specs.declared.peer.Peer.{Peer}
 use Rattle.cf_wires.specs.Log.{Log}
-use Rattle.cf_peer.specs.Trail.{Trail, Part, part_of, trail, connected, own, is_heard_out_in}
+use Rattle.cf_peer.specs.Trail.{Trail, Part, part_of, trail, is_connected, own, is_heard_out_in}
 use Rattle.cf_peer.specs.Asking.{SameUse}
 use Rattle.cf_sync.specs.Fetching.{AreShorterBefore, IsConnected, IsBest, Rule, counted_part}
 use Rattle.cf_holds.specs.Due.{IsInTurn, Puts}
@@ -37,12 +37,12 @@ off_by : (b : Bool) (own : Chain) → (if b then Some own else None) ≡ None �
 off_by true own e = absurd (none-some own (sym e))
 off_by false own e = refl
 
-pub on_kept : (t : Trail) → connected t ≡ true → chain_kept t ≡ Some (own t)
+pub on_kept : (t : Trail) → is_connected t ≡ true → chain_kept t ≡ Some (own t)
 on_kept t on = ap (λ b. if b then Some (own t) else None) on
 
-pub here_of : (place : Place) (part : Part) → Fits place part → connected part.trail ≡ true → (peer : Peer) × (place ≡ Here peer) × Keeps peer part
+pub here_of : (place : Place) (part : Part) → Fits place part → is_connected part.trail ≡ true → (peer : Peer) × (place ≡ Here peer) × Keeps peer part
 here_of (Here peer) part keeps on = (peer, refl, keeps)
-here_of (Lost end) part lost on = absurd (both_ways (connected part.trail) lost.off on)
+here_of (Lost end) part lost on = absurd (both_ways (is_connected part.trail) lost.off on)
 
 -- all that it said counts
 use_of : (places : List Place) (log : Log) (p : ℕ) → PlacesStand places log → IsConnected log p → SameUse (trail log p)
@@ -60,7 +60,7 @@ best_is places log s chain stand tracks (inl best) = record {
       let same : length (own (counted_part log p)) ≡ length (own (trail log p)) = ap (λ (c : Chain). length c) (use_of places log p stand on).chain in
       omega (arith, mine, most, same, best.1.1 p);
   shown = (
-      let both = kept_by (connected (trail log best.0.0)) (own (trail log best.0.0)) chain (sym (tracks.kept best.0.0) ∙ best.2) in
+      let both = kept_by (is_connected (trail log best.0.0)) (own (trail log best.0.0)) chain (sym (tracks.kept best.0.0) ∙ best.2) in
       inl (
         best.0.0,
         (
@@ -76,7 +76,7 @@ best_is places log s chain stand tracks (inl best) = record {
 }
 best_is places log s chain stand tracks (inr none) = record {
   longest = λ p on. absurd (none-some (own (trail log p)) (sym (none.0 p) ∙ tracks.kept p ∙ on_kept (trail log p) on));
-  shown = inr (λ p. off_by (connected (trail log p)) (own (trail log p)) (sym (tracks.kept p) ∙ none.0 p), none.1);
+  shown = inr (λ p. off_by (is_connected (trail log p)) (own (trail log p)) (sym (tracks.kept p) ∙ none.0 p), none.1);
 }
 
 -- and what is the best of the log is the best of what is kept
@@ -86,12 +86,12 @@ kept_rank places log s p stand tracks on =
     let same : length (own (counted_part log p)) ≡ length (own (trail log p)) = ap (λ (c : Chain). length c) (use_of places log p stand on).chain in
     omega (arith, mine, same)
 
-off_rank : (log : Log) (s : Seen) (p : ℕ) → Tracks s log → connected (trail log p) ≡ false → rank (s.chains p) ≡ 0
+off_rank : (log : Log) (s : Seen) (p : ℕ) → Tracks s log → is_connected (trail log p) ≡ false → rank (s.chains p) ≡ 0
 off_rank log s p tracks off = ap rank (tracks.kept p ∙ ap (λ b. if b then Some (own (trail log p)) else None) off)
 
 pub best_back : (places : List Place) (log : Log) (s : Seen) (chain : Chain) → PlacesStand places log → Tracks s log → IsBest log chain → IsBestChain s.chains chain
 best_back places log s chain stand tracks best = by best.shown where
-  by : ((p : ℕ) × (IsConnected log p × (own (counted_part log p) ≡ chain) × AreShorterBefore log chain p)) ⊎ (((p : ℕ) → connected (trail log p) ≡ false) × (chain ≡ []))
+  by : ((p : ℕ) × (IsConnected log p × (own (counted_part log p) ≡ chain) × AreShorterBefore log chain p)) ⊎ (((p : ℕ) → is_connected (trail log p) ≡ false) × (chain ≡ []))
       → IsBestChain s.chains chain
   by (inl w) =
       let high : rank (s.chains w.0) ≡ length chain + 1 = kept_rank places log s w.0 stand tracks w.1.0 ∙ ap (λ (c : Chain). length c + 1) w.1.1 in
@@ -99,11 +99,11 @@ best_back places log s chain stand tracks best = by best.shown where
         record { 0 = w.0 },
         (
           omega (arith, high),
-          λ q. elim (cases_Bool (connected (trail log q))) [
+          λ q. elim (cases_Bool (is_connected (trail log q))) [
             | inl on ↦ (let mine = kept_rank places log s q stand tracks on in let most = best.longest q on in omega (arith, high, mine, most))
             | inr off ↦ (let none = off_rank log s q tracks off in omega (arith, high, none))
           ],
-          λ q lt. elim (cases_Bool (connected (trail log q))) [
+          λ q lt. elim (cases_Bool (is_connected (trail log q))) [
             | inl on ↦ (let mine = kept_rank places log s q stand tracks on in let less = w.1.2 q lt on in omega (arith, high, mine, less))
             | inr off ↦ (let none = off_rank log s q tracks off in omega (arith, high, none))
           ],

@@ -16,8 +16,8 @@ use Rattle.cf_peer.specs.declared.mode.Mode.{Mode}
 use Rattle.cf_peer.specs.declared.peer.Peer.{Peer}
 use Rattle.cf_peer.specs.Acts.{IsDoable}
 use Rattle.cf_peer.specs.Peer.{calm}
-use Rattle.cf_peer.specs.Asking.{SameUse, NothingOpen, claims, counted, fetched, given, hash_claimed, request}
-use Rattle.cf_peer.specs.Trail.{Part, Trail, Asked, connected, heard_part, hears, hears_fault, item_of, item_of_read, has_version, replies_owed, own, part_after, part_of, replied, trail, with_item}
+use Rattle.cf_peer.specs.Asking.{SameUse, NothingOpen, claims, counted, fetched_blocks, given_filters, hash_claimed, request}
+use Rattle.cf_peer.specs.Trail.{Part, Trail, Asked, is_connected, heard_part, hears, hears_fault, item_of, item_of_read, has_version, replies_owed, own, part_after, part_of, replies_sent, trail, with_item}
 use Rattle.cf_peer.proofs.Stream.{said_met}
 use Rattle.cf_msg.specs.Reading.{message_of}
 use Rattle.cf_frame.specs.declared.frame.Frame.{Frame}
@@ -100,7 +100,7 @@ asked_join (r ∷ rs) part =
     (j.0 ++ Asked r ∷ [], j.1 ∙ sym (append_assoc j.0 (Asked r ∷ []) part.trail))
 
 -- replies give nothing
-given_asked : (rs : List Msg) (part : Part) → given (counted (asked_all rs part).trail) ≡ given (counted part.trail)
+given_asked : (rs : List Msg) (part : Part) → given_filters (counted (asked_all rs part).trail) ≡ given_filters (counted part.trail)
 given_asked [] part = refl
 given_asked (r ∷ rs) part = given_asked rs (with_item (Asked r) part)
 
@@ -176,16 +176,16 @@ module _ (d : Desk) (p : PeerNo) (piece : List ℕ) (old : Peer) (mid : Desk) (b
   at_next : part_of next p.0 ≡ end
   at_next = heard_log p piece log
 
-  up : connected (trail next p.0) ≡ true
-  up = ap (λ (y : Part). connected y.trail) at_next ∙ heard_connected piece (part_of log p.0) ∙ keeps.holds.on
+  up : is_connected (trail next p.0) ≡ true
+  up = ap (λ (y : Part). is_connected y.trail) at_next ∙ heard_connected piece (part_of log p.0) ∙ keeps.holds.on
 
-  sent_before : replied end.trail ≡ replies_owed (part_of log p.0).trail
+  sent_before : replies_sent end.trail ≡ replies_owed (part_of log p.0).trail
   sent_before = (heard_says piece (part_of log p.0)).replies ∙ keeps.answered.replies
 
-  due : replies_owed (counted (trail next p.0)) ≡ replied (trail next p.0) ++ (rs ++ more)
+  due : replies_owed (counted (trail next p.0)) ≡ replies_sent (trail next p.0) ++ (rs ++ more)
   due = ap (λ (y : Part). replies_owed (counted y.trail)) at_next ∙ owes
       ∙ ap (λ (ms : List Msg). ms ++ (rs ++ more)) (sym sent_before)
-      ∙ sym (ap (λ (y : Part). replied y.trail ++ (rs ++ more)) at_next)
+      ∙ sym (ap (λ (y : Part). replies_sent y.trail ++ (rs ++ more)) at_next)
 
   done : {rule : Rule} → RepliesDone rule p rs next
   done = replies_done p rs more next (number_within d.places log p.0 stand lt) x.are.each
@@ -212,12 +212,12 @@ module _ (d : Desk) (p : PeerNo) (piece : List ℕ) (old : Peer) (mid : Desk) (b
           joined = ap (λ (y : Part). y.trail) at_end ∙ sent_more.1
               ∙ ap (λ (u : Trail). sent_more.0 ++ u) (ap (λ (y : Part). y.trail) (sym x.leads) ∙ heard_more.1)
               ∙ sym (append_assoc sent_more.0 heard_more.0 x.so_far);
-          gave = ap (λ (y : Part). given (counted y.trail)) at_end ∙ given_asked rs end
-              ∙ ap (λ (y : Part). given (counted y.trail)) (sym x.leads) ∙ brings.2;
+          gave = ap (λ (y : Part). given_filters (counted y.trail)) at_end ∙ given_asked rs end
+              ∙ ap (λ (y : Part). given_filters (counted y.trail)) (sym x.leads) ∙ brings.2;
           claimed = ap (λ (y : Part). claims (counted y.trail)) at_end ∙ claims_asked rs end
               ∙ ap (λ (y : Part). claims (counted y.trail)) (sym x.leads) ∙ rest.0;
         },
-        ap (λ (y : Part). replied y.trail) at_end ∙ asked_replied rs end x.are.each
+        ap (λ (y : Part). replies_sent y.trail) at_end ∙ asked_replied rs end x.are.each
             ∙ ap (λ (ms : List Msg). ms ++ rs) sent_before ∙ sym x.owes ∙ sym use_so_far.owing,
       )
 
@@ -225,11 +225,11 @@ module _ (d : Desk) (p : PeerNo) (piece : List ℕ) (old : Peer) (mid : Desk) (b
   read = sends_track p rs (seen_at mid.seen next) next x.are.each
       (sendable_by p rs (subst (All IsDoable) x.acts doable))
       (tracks_exposed p d.seen mid.seen [] mid.acts piece log block filter x
-      (ap (λ (y : Part). fetched (counted y.trail)) (sym x.leads)
-      ∙ brings.1) (ap (λ (y : Part). given (counted y.trail)) (sym x.leads) ∙ brings.2) tracks)
+      (ap (λ (y : Part). fetched_blocks (counted y.trail)) (sym x.leads)
+      ∙ brings.1) (ap (λ (y : Part). given_filters (counted y.trail)) (sym x.leads) ∙ brings.2) tracks)
 
   -- who claims it omits something
-  omitting : (q : ℕ) (claim : Claim) → connected (trail sent q) ≡ true
+  omitting : (q : ℕ) (claim : Claim) → is_connected (trail sent q) ≡ true
       → claims (counted (trail sent q)) block ≡ Some claim → claim.hash.0 ≡ filter → IsOmitting sent q
   omitting q claim on mine this =
       let found : mid.seen.trials.told block claim.hash.0 ≡ Some true = ap (mid.seen.trials.told block) this
@@ -257,7 +257,7 @@ module _ (d : Desk) (p : PeerNo) (piece : List ℕ) (old : Peer) (mid : Desk) (b
 
   guilty_here : (claim : Claim) → mid.seen.claims p.0 block ≡ Some claim → claim.hash.0 ≡ filter → IsGuilty sent p.0
   guilty_here claim is this =
-      let on : connected (trail sent p.0) ≡ true = ap (λ (y : Part). connected y.trail) at_end
+      let on : is_connected (trail sent p.0) ≡ true = ap (λ (y : Part). is_connected y.trail) at_end
       ∙ (unchanged rs end x.are.each).on ∙ heard_connected piece (part_of log p.0) ∙ keeps.holds.on in
       let omits = omitting p.0 claim on (here_claims claim is) this in
       record {
@@ -275,11 +275,11 @@ module _ (d : Desk) (p : PeerNo) (piece : List ℕ) (old : Peer) (mid : Desk) (b
       → mid.seen.claims q block ≡ Some claim → claim.hash.0 ≡ filter → IsGuilty sent q
   guilty_other q claim other stays is this =
       let same = others_same q other in
-      let on : connected (trail log q) ≡ true = here_on (place_at d.places q) (part_of log q) (stand.each q) ∙ stays in
+      let on : is_connected (trail log q) ≡ true = here_on (place_at d.places q) (part_of log q) (stand.each q) ∙ stays in
       let mine : claims (counted (trail log q)) block ≡ Some claim =
       sym (tracks.claimed q block ∙ ap (λ (b : Bool). (if b then claims (counted (trail log q)) else no_claims) block)
       on) ∙ sym (x.gains.claims q other block) ∙ is in
-      let omits = omitting q claim (ap (λ (y : Part). connected y.trail) same
+      let omits = omitting q claim (ap (λ (y : Part). is_connected y.trail) same
       ∙ on) (ap (λ (y : Part). claims (counted y.trail) block) same ∙ mine) this in
       record {
         number = omega (arith, in_use d.places q stays, stand.count, (done {rule = once []}).count);
@@ -329,8 +329,8 @@ module _ (d : Desk) (p : PeerNo) (piece : List ℕ) (old : Peer) (mid : Desk) (b
     abbrev last : Log
     last = after (map shut_act qs) sent
 
-    off : (q : ℕ) → IsIn q qs → connected (trail last q) ≡ false
-    off q i = ap (λ (y : Part). connected y.trail) ((shut {rule = once []}).here q i)
+    off : (q : ℕ) → IsIn q qs → is_connected (trail last q) ≡ false
+    off q i = ap (λ (y : Part). is_connected y.trail) ((shut {rule = once []}).here q i)
 
     left : (q : ℕ) → (IsIn q qs → ⊥) → q ≢ p.0
     left q out this = out (subst (λ (k : ℕ). IsIn k qs) (sym this) p_closed)
@@ -367,8 +367,8 @@ module _ (d : Desk) (p : PeerNo) (piece : List ℕ) (old : Peer) (mid : Desk) (b
     brought : IsSameBrought sent last
     brought = record {
       blocks = λ q. elim (number_in q qs) [
-        | inl i ↦ ap (λ (y : Part). fetched (counted y.trail)) ((shut {rule = once []}).here q i)
-        | inr out ↦ ap (λ (y : Part). fetched (counted y.trail)) ((shut {rule = once []}).others q out)
+        | inl i ↦ ap (λ (y : Part). fetched_blocks (counted y.trail)) ((shut {rule = once []}).here q i)
+        | inr out ↦ ap (λ (y : Part). fetched_blocks (counted y.trail)) ((shut {rule = once []}).others q out)
       ];
       filters = shut_gave qs sent;
     }
@@ -390,9 +390,9 @@ module _ (d : Desk) (p : PeerNo) (piece : List ℕ) (old : Peer) (mid : Desk) (b
         (λ q. elim (number_in q qs) [
           | inl i ↦ record {
             filters = λ b is. absurd (both_ways (now.seen.opens.filters q b) ((shuts.gone q i).3 b) is);
-            all_filters = λ b on j. absurd (both_ways (connected (trail last q)) (off q i) on);
+            all_filters = λ b on j. absurd (both_ways (is_connected (trail last q)) (off q i) on);
             blocks = λ b is. absurd (both_ways (now.seen.opens.blocks q b) ((shuts.gone q i).4 b) is);
-            all_blocks = λ b on j. absurd (both_ways (connected (trail last q)) (off q i) on);
+            all_blocks = λ b on j. absurd (both_ways (is_connected (trail last q)) (off q i) on);
           }
           | inr out ↦ (
               let other = left q out in
@@ -489,7 +489,7 @@ claimed_there : (d mid : Desk) (p : PeerNo) {peer : Peer} (log : Log) → Tracks
 claimed_there d mid p log tracks changed q at claim e = elim (cases_eq q p.0) [
   | inl this ↦ ap (λ (k : ℕ). is_some (mid.seen.chains k)) this ∙ sym changed.here
   | inr other ↦ ap is_some (changed.others q other) ∙ ap is_some (tracks.kept q)
-      ∙ by (connected (trail log q)) (sym (tracks.claimed q at) ∙ sym (changed.claims q other at) ∙ e)
+      ∙ by (is_connected (trail log q)) (sym (tracks.claimed q at) ∙ sym (changed.claims q other at) ∙ e)
 ] where
   by : (on : Bool) → (if on then claims (counted (trail log q)) else no_claims) at ≡ Some claim
       → is_some (if on then Some (own (trail log q)) else None) ≡ true

@@ -18,7 +18,7 @@ use Rattle.cf_wires.specs.declared.event.Event.TheVariants.{Sent, Closed, Took}
 use Rattle.cf_wires.specs.declared.event.Mark.TheVariants as mark
 use Rattle.cf_peer.specs.Acts.{bytes_of}
 use Rattle.cf_wires.specs.Log.{Log}
-use Rattle.cf_peer.specs.Trail.{Trail, Part, Lost, part_of, trail, asks, spelled, with_item, heard_part, connected, greeted, is_version}
+use Rattle.cf_peer.specs.Trail.{Trail, Part, Lost, part_of, trail, asks, spelled, with_item, heard_part, is_connected, is_greeted, is_version}
 use Rattle.cf_peer.specs.Asking.{MayAskIn}
 use Rattle.cf_sync.specs.Fetching.{Rule}
 use Rattle.cf_client.specs.declared.client.Client.{Client}
@@ -31,7 +31,7 @@ use Rattle.cf_client.proofs.Taking.{heard_says}
 
 -- a connected peer was greeted
 abbrev pub IsGreetedOn : Trail → Type 0
-IsGreetedOn t = connected t ≡ true → greeted t ≡ true
+IsGreetedOn t = is_connected t ≡ true → is_greeted t ≡ true
 
 abbrev pub AreGreeted : Log → Type 0
 AreGreeted log = (p : ℕ) → IsGreetedOn (trail log p)
@@ -48,8 +48,8 @@ asked_greeted : (o : Option Msg) (t : Trail) → IsGreetedOn t → IsGreetedOn (
 asked_greeted None t is = is
 asked_greeted (Some m) t is = λ on. or_right (is_version m) (is on)
 
-off_greeted : (t : Trail) → connected t ≡ false → IsGreetedOn t
-off_greeted t off = λ on. absurd (both_ways (connected t) off on)
+off_greeted : (t : Trail) → is_connected t ≡ false → IsGreetedOn t
+off_greeted t off = λ on. absurd (both_ways (is_connected t) off on)
 
 sent_greeted : (log : Log) (p : PeerNo) (bytes : List ℕ) → AreGreeted log → AreGreeted (Sent p bytes ∷ log)
 sent_greeted log p bytes all = λ q.
@@ -79,13 +79,13 @@ reflects_took c log d reflects = took_greeted log d (reflects_greeted c log refl
 
 pub reflects_cut : {H M : Type 0} {g : Ghosts H} {j : Judges M} (c : Client H M g j) (p : PeerNo) (log cut : Log) → CutFor p log cut → Reflects c log → AreGreeted cut
 reflects_cut c p log cut is reflects = λ q. elim (cases_eq q p.0) [
-  | inl same ↦ off_greeted (trail cut q) (ap (λ (k : ℕ). connected (trail cut k)) same ∙ is.off)
+  | inl same ↦ off_greeted (trail cut q) (ap (λ (k : ℕ). is_connected (trail cut k)) same ∙ is.off)
   | inr other ↦ subst (λ (x : Part). IsGreetedOn x.trail) (sym (is.others q other)) (reflects_greeted c log reflects q)
 ]
 
 -- who was greeted is sent no version again
 asked_tells : (mode : Mode) (words : Greeting) (t : Trail) (m : Msg) → IsGreetedOn t → MayAskIn mode t m → TellsGreeting words m
-asked_tells mode words t (Version version services time to from nonce agent height relay) is may = absurd (both_ways (greeted t) may.1 (is may.0))
+asked_tells mode words t (Version version services time to from nonce agent height relay) is may = absurd (both_ways (is_greeted t) may.1 (is may.0))
 asked_tells mode words t m is may = tt
 
 -- where each connected peer was greeted, no act that is allowed sends a version

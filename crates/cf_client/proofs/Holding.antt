@@ -29,8 +29,8 @@ use Rattle.cf_msg.specs.declared.msg.Msg.TheVariants.{Ping, Pong, GetHeaders, He
 use Rattle.cf_peer.specs.declared.mode.Mode.TheVariants.{Following}
 use Rattle.cf_peer.specs.Held.{count_came}
 use Rattle.cf_peer.specs.Peer.{aged, request_of}
-use Rattle.cf_peer.specs.Trail.{Trail, Part, Called, Said, Refused, Asked, Passed, Lost, part_of, trail, connected, ready, own}
-use Rattle.cf_peer.specs.Asking.{OpenRequest, NothingOpen, HeadersOpen, ClaimsOpen, FiltersOpen, BlockOpen, PingOpen, is_answer_of, is_wanted, blocks_from, claims_asked, filters_asked, filters_left, filter_of, request, request_for, request_after, age, claims, claims_after, verdict, counted, fetched, given, MayAskIn}
+use Rattle.cf_peer.specs.Trail.{Trail, Part, Called, Said, Refused, Asked, Passed, Lost, part_of, trail, is_connected, ready, own}
+use Rattle.cf_peer.specs.Asking.{OpenRequest, NothingOpen, HeadersOpen, ClaimsOpen, FiltersOpen, BlockOpen, PingOpen, is_answer_of, is_wanted, blocks_from, claims_asked, filters_asked, filters_left, filter_of, request, request_for, request_after, age, claims, claims_after, verdict, counted, fetched_blocks, given_filters, MayAskIn}
 use Rattle.cf_sync.specs.Fetching.{RightlyIn, IsFetchedHash}
 use Rattle.cf_holds.specs.Known.{HoldsFetched, HoldsClaims, HoldsGiven, claims_kept}
 use Rattle.cf_sync.specs.Honesty.{was_called}
@@ -95,7 +95,7 @@ in_all {A} f places log stand none p x i = elim (cases_lt p ((tally_of log).dial
 
 -- it isn't connected, and no block nor filter of it counts
 abbrev HasNothing : Trail → Type 0
-HasNothing t = (connected t ≡ false) × (blocks_fetched t ≡ []) × (filters_given t ≡ [])
+HasNothing t = (is_connected t ≡ false) × (blocks_fetched t ≡ []) × (filters_given t ≡ [])
 
 uncalled : (t : Trail) → was_called t ≡ false → HasNothing t
 uncalled [] e = (refl, refl, refl)
@@ -103,7 +103,7 @@ uncalled (Called ∷ t) e = cc e
 uncalled (Said m ∷ t) e =
     let none = uncalled t e in
     let same = ap (λ (b : Bool). if b && is_none (verdict (Said m ∷ t)) then Said m ∷ counted t else counted t) none.0 in
-    (none.0, ap fetched same ∙ none.1, ap given same ∙ none.2)
+    (none.0, ap fetched_blocks same ∙ none.1, ap given_filters same ∙ none.2)
 uncalled (Refused c ∷ t) e = uncalled t e
 uncalled (Asked m ∷ t) e = uncalled t e
 uncalled (Passed s ∷ t) e = uncalled t e
@@ -271,10 +271,10 @@ abbrev rows_if : Bool → Trail → List (Hash × Claim)
 rows_if b t = if b then made_in (counted t) else []
 
 abbrev rows_kept : Trail → List (Hash × Claim)
-rows_kept t = rows_if (connected t) t
+rows_kept t = rows_if (is_connected t) t
 
 rows_short : (t : Trail) → length (rows_kept t) ≤ length (hashes_kept t)
-rows_short t = by (connected t) where
+rows_short t = by (is_connected t) where
   by : (b : Bool) → length (rows_if b t) ≤ length (if b then hashes_claimed (counted t) else [])
   by true = made_in_short (counted t)
   by false = omega arith
@@ -283,7 +283,7 @@ no_rows : (t : Trail) → was_called t ≡ false → rows_kept t ≡ []
 no_rows t e = ap (λ (b : Bool). rows_if b t) (uncalled t e).0
 
 kept_made : (t : Trail) (block : Hash) (claim : Claim) → claims_kept t block ≡ Some claim → IsIn (row block claim) (rows_kept t)
-kept_made t block claim e = by (connected t) e where
+kept_made t block claim e = by (is_connected t) e where
   by : (b : Bool) → (if b then claims (counted t) else no_claims) block ≡ Some claim → IsIn (row block claim) (rows_if b t)
   by true f = claims_made (counted t) block claim f
   by false f = cc f
@@ -406,7 +406,7 @@ came_few (BlockOpen block) few = omega arith
 came_few (PingOpen number) few = omega arith
 
 kept_few : (t : Trail) → AskedRightlyIn Following t → length (filters_kept t) ≤ thousand_if (is_giving t)
-kept_few t right = by (connected t) where
+kept_few t right = by (is_connected t) where
   by : (b : Bool) → length (if b then filters_in (request t) else []) ≤ thousand_if (b && is_for_filters (request t))
   by true = came_few (request t) (few_asked t right)
   by false = omega arith
@@ -458,9 +458,9 @@ holds_no_more counts places s held log headers counted filters bytes few stand t
 
 -- ---- over a store that counts each header once
 
-chain_is : (t : Trail) (own' : Chain) → chain_kept t ≡ Some own' → (connected t ≡ true) × (own t ≡ own')
-chain_is t own' e = by (connected t) refl e where
-  by : (b : Bool) → connected t ≡ b → (if b then Some (own t) else None) ≡ Some own' → (connected t ≡ true) × (own t ≡ own')
+chain_is : (t : Trail) (own' : Chain) → chain_kept t ≡ Some own' → (is_connected t ≡ true) × (own t ≡ own')
+chain_is t own' e = by (is_connected t) refl e where
+  by : (b : Bool) → is_connected t ≡ b → (if b then Some (own t) else None) ≡ Some own' → (is_connected t ≡ true) × (own t ≡ own')
   by true on f = (on, (let same : own t ≡ own' = cc f in same))
   by false off f = cc f
 

@@ -13,7 +13,7 @@ use Rattle.cf_headers.specs.Heights.{hash_at, common_of}
 use Rattle.cf_peer.specs.declared.mode.Mode.{Mode}
 use Rattle.cf_peer.specs.declared.peer.Peer.{Peer}
 use Rattle.cf_wires.specs.Log.{Log}
-use Rattle.cf_peer.specs.Trail.{Trail, Part, part_of, trail, connected, ready, own}
+use Rattle.cf_peer.specs.Trail.{Trail, Part, part_of, trail, is_connected, ready, own}
 use Rattle.cf_peer.specs.Asking.{is_open, claims}
 use Rattle.cf_peer.specs.Peer.{Holds, wants, is_idle_peer, is_ready_peer}
 use Rattle.cf_peer.proofs.Peers.{open_by, ready_is}
@@ -141,7 +141,7 @@ report_is mode places log s height hash entries stand tracks settled decided wat
 
 -- ---- how each peer stands
 
-end_here : (b : Bool) (t : Trail) → connected t ≡ true → ready t ≡ b → EndTells (if b then Ready else Waiting) t
+end_here : (b : Bool) (t : Trail) → is_connected t ≡ true → ready t ≡ b → EndTells (if b then Ready else Waiting) t
 end_here true t on over = (on, over)
 end_here false t on over = (on, over)
 

@@ -9,8 +9,8 @@ use Rattle.cf_bytes.specs.declared.peer.PeerNo.{PeerNo}
 use Rattle.cf_headers.specs.Chain.{Hash, IsIn}
 use Rattle.cf_peer.specs.declared.act.Act.{Act}
 use Rattle.cf_peer.specs.declared.peer.Cause.TheVariants.{Omits}
-use Rattle.cf_peer.specs.Asking.{claims, counted, fetched, hash_claimed}
-use Rattle.cf_peer.specs.Trail.{Part, Trail, Lost as LostItem, connected, part_of, with_item}
+use Rattle.cf_peer.specs.Asking.{claims, counted, fetched_blocks, hash_claimed}
+use Rattle.cf_peer.specs.Trail.{Part, Trail, Lost as LostItem, is_connected, part_of, with_item}
 use Rattle.cf_wires.specs.declared.event.Event.TheVariants.{Closed}
 use Rattle.cf_wires.specs.declared.event.Mark.TheVariants as mark
 use Rattle.cf_wires.specs.Log.{Log, tally_of}
@@ -210,7 +210,7 @@ pub record IsGuilty (log : Log) (q : ℕ) : Type 0 where
 omitting_on : (c : PeerNo) (log : Log) (q : ℕ) → part_of (Closed c ∷ log) q ≡ part_of log q → IsOmitting log q
     → IsOmitting (Closed c ∷ log) q
 omitting_on c log q same o = record {
-  there = ap (λ (x : Part). connected x.trail) same ∙ o.there;
+  there = ap (λ (x : Part). is_connected x.trail) same ∙ o.there;
   block = o.block;
   hash = o.hash;
   claimed = ap (λ (x : Part). hash_claimed (claims (counted x.trail)) o.block) same ∙ o.claimed;
@@ -301,5 +301,5 @@ unomitted_shuts (n ∷ qs) log q out is =
     ]
 
 -- how one that was connected is lost then
-pub shut_lost : (t : Trail) → connected t ≡ true → IsLost (ClosedFor Omits) (LostItem mark.Closed ∷ t)
+pub shut_lost : (t : Trail) → is_connected t ≡ true → IsLost (ClosedFor Omits) (LostItem mark.Closed ∷ t)
 shut_lost t on = record { off = refl; by = inr (off_unfailed t on, inl (on, inl refl)) }

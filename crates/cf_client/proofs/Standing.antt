@@ -22,13 +22,13 @@ use Rattle.cf_peer.specs.declared.peer.Cause.TheVariants.{Omits, Overdue}
 use Rattle.cf_peer.specs.declared.peer.Peer.{Peer}
 use Rattle.cf_peer.specs.Acts.{bytes_of, IsSendable}
 use Rattle.cf_wires.specs.Log.{Log, tally_of, noted}
-use Rattle.cf_peer.specs.Trail.{replies_owed, Trail, Part, Called, Asked, Lost as LostItem, part_of, trail, went_on, asks, spelled, with_item, called_part, connected, own, replied, as_reply, is_version, IsClientVersion}
+use Rattle.cf_peer.specs.Trail.{replies_owed, Trail, Part, Called, Asked, Lost as LostItem, part_of, trail, went_on, asks, spelled, with_item, called_part, is_connected, own, replies_sent, as_reply, is_version, IsClientVersion}
 use Rattle.cf_peer.specs.Asking.{counted, age, is_open, MayAskIn, IsFree}
 use Rattle.cf_peer.specs.Peer.{Holds, heard_out, wants, is_idle_peer, called_peer, asked_for_headers}
 use Rattle.cf_sync.specs.Blame.{HasOmitted}
 use Rattle.cf_sync.specs.Fetching.{MaySendIn, RightlyIn, Rule}
 use Rattle.cf_holds.specs.Due.{IsCalledFor}
-use Rattle.cf_sync.specs.Honesty.{asked}
+use Rattle.cf_sync.specs.Honesty.{messages_asked}
 use Rattle.cf_sync.proofs.Counted.{same_use}
 use Rattle.cf_sync.proofs.Omitted.{connected_unomitted}
 use Rattle.cf_peer.proofs.Peers.{open_by, idle_request, late_is, wants_is, asked_headers_holds, called_holds}
@@ -180,7 +180,7 @@ late_open (Here peer) part keeps is = late_is peer part.trail is keeps.holds
 late_open (Lost end) part off is = absurd (false≢true (sym is))
 
 -- a connected peer was answered; and of a place whose request is late one is connected
-pub all_replied : (peer : Peer) (part : Part) → Keeps peer part → replied part.trail ≡ replies_owed (counted part.trail)
+pub all_replied : (peer : Peer) (part : Part) → Keeps peer part → replies_sent part.trail ≡ replies_owed (counted part.trail)
 all_replied peer part keeps = keeps.answered.replies ∙ sym (same_use part.trail keeps.holds.on keeps.holds.clean).owing
 
 pub kept_replied : (peer : Peer) (part : Part) → Keeps peer part → IsReplied part.trail
@@ -200,11 +200,11 @@ late_goes places acts log i lt goes is named =
     let o = late_open (get_or places i nobody) part (goes.stand.each i) is in
     goes_act places acts log i (Lost (ClosedFor Overdue)) (Close p Overdue) lt goes (λ q other. closed_others p q (part_of (after acts log) q) other) refl
     (number_within places (after acts log) i goes.stand lt, inl (inr (inr (refl, o.0, o.1))), inl (late_replied (get_or places i nobody) part (goes.stand.each i) is), named)
-    (subst (λ (x : Part). IsLost (ClosedFor Overdue) x.trail) (sym (closed_here p part)) (shut_now part.trail Overdue (and_parts (connected part.trail) _ o.0).0 (inr (inr (refl, o.0, o.1)))))
+    (subst (λ (x : Part). IsLost (ClosedFor Overdue) x.trail) (sym (closed_here p part)) (shut_now part.trail Overdue (and_parts (is_connected part.trail) _ o.0).0 (inr (inr (refl, o.0, o.1)))))
     (λ same. cc)
     (λ right omitted. elim omitted [
       | inl now ↦ ap (λ (c : Cause). Lost (ClosedFor c)) (named right.1 now.1)
-      | inr before ↦ absurd (connected_unomitted (after acts log) i (and_parts (connected part.trail) _ o.0).0 before)
+      | inr before ↦ absurd (connected_unomitted (after acts log) i (and_parts (is_connected part.trail) _ o.0).0 before)
     ])
     (unomitted_close p (after acts log))
 
@@ -250,8 +250,8 @@ greeted_more (n ∷ ms) m other greeted = (greeted.0, list_any-append is_version
 
 asked_answered : (t : Trail) (m : Msg) → IsAnswered t → is_version m ≡ false → as_reply m ≡ [] → IsAnswered (Asked m ∷ t)
 asked_answered t m answered other none = record {
-  greeted = greeted_more (asked t) m other answered.greeted;
-  replies = ap (λ (rs : List Msg). replied t ++ rs) none ∙ append-nil (replied t) ∙ answered.replies;
+  greeted = greeted_more (messages_asked t) m other answered.greeted;
+  replies = ap (λ (rs : List Msg). replies_sent t ++ rs) none ∙ append-nil (replies_sent t) ∙ answered.replies;
 }
 
 -- headers
@@ -441,7 +441,7 @@ refused_stand places log p name last stand =
     (λ same. cc) (λ q omitted. omitted) (λ q omitted. omitted)
 
 -- beyond the places nobody is connected
-pub past_nobody : (places : List Place) (log : Log) (p : ℕ) → length places ≤ p → PlacesStand places log → connected (trail log p) ≡ false
+pub past_nobody : (places : List Place) (log : Log) (p : ℕ) → length places ≤ p → PlacesStand places log → is_connected (trail log p) ≡ false
 past_nobody places log p past stand =
     let none : get_or places p nobody ≡ nobody = grind (arith, common_steps) in
     (subst (λ (x : Place). Fits x (part_of log p)) none (stand.each p)).off
@@ -451,7 +451,7 @@ pub busy_open : (place : Place) (part : Part) → Fits place part → is_open pa
 busy_open (Here peer) part fits = open_by peer part.trail fits.holds
 busy_open (Lost end) part lost = rw lost.off refl
 
-pub here_on : (place : Place) (part : Part) → Fits place part → connected part.trail ≡ is_here place
+pub here_on : (place : Place) (part : Part) → Fits place part → is_connected part.trail ≡ is_here place
 here_on (Here peer) part fits = fits.holds.on
 here_on (Lost end) part lost = lost.off
 

@@ -25,7 +25,7 @@ use Rattle.cf_peer.specs.declared.peer.Cause.TheVariants.{SendFailed, Omits}
 use Rattle.cf_peer.specs.declared.peer.Peer.{Peer}
 use Rattle.cf_peer.specs.Acts.{bytes_of, IsSendable, IsDoable}
 use Rattle.cf_wires.specs.Log.{Log, tally_of}
-use Rattle.cf_peer.specs.Trail.{Trail, Part, Asked, Lost as LostItem, item_of, item_of_read, hears, hears_fault, heard_part, part_of, trail, went_on, with_item, connected, failed, greeted, has_version, own, is_heard_out, replies_owed, replied, as_reply, is_version}
+use Rattle.cf_peer.specs.Trail.{Trail, Part, Asked, Lost as LostItem, item_of, item_of_read, hears, hears_fault, heard_part, part_of, trail, went_on, with_item, is_connected, has_failed, is_greeted, has_version, own, is_heard_out, replies_owed, replies_sent, as_reply, is_version}
 use Rattle.cf_peer.specs.Asking.{claims, request, verdict, counted, IsNextReply}
 use Rattle.cf_peer.specs.Peer.{Holds, calm}
 use Rattle.cf_peer.specs.Hearing.{IsReply}
@@ -33,7 +33,7 @@ use Rattle.cf_dispute.specs.Claims.{Table, no_claims}
 use Rattle.cf_headers.specs.Chain.{Hash}
 use Rattle.cf_sync.specs.Fetching.{MaySendIn, Rule, blocks_open, filters_open}
 use Rattle.cf_holds.specs.Due.{IsCalledFor}
-use Rattle.cf_sync.specs.Honesty.{asked}
+use Rattle.cf_sync.specs.Honesty.{messages_asked}
 use Rattle.cf_sync.proofs.Counted.{same_use}
 use Rattle.cf_sync.specs.Blame.{HasOmitted}
 use Rattle.cf_sync.proofs.Omitted.{connected_unomitted, words_unnamed}
@@ -62,10 +62,10 @@ use Rattle.cf_holds.proofs.KeptAims.{IsNoQuestion}
 
 -- what a peer says loses nobody, and nothing is sent by it
 pub record SaysOnly (after before : Trail) : Type 0 where
-  pub on : connected after ≡ connected before
-  pub replies : replied after ≡ replied before
-  pub asks : asked after ≡ asked before
-  pub greets : greeted after ≡ greeted before
+  pub on : is_connected after ≡ is_connected before
+  pub replies : replies_sent after ≡ replies_sent before
+  pub asks : messages_asked after ≡ messages_asked before
+  pub greets : is_greeted after ≡ is_greeted before
   pub lost : (loss : Loss) → IsLost loss before → IsLost loss after
 
 says_nothing : (t : Trail) → SaysOnly t t
@@ -93,7 +93,7 @@ heard_says piece part =
     let r = read_stream (part.waits ++ piece) in
     says_more part.trail (hears r.frames part.trail) (hears_fault r.fault (hears r.frames part.trail)) (hears_says r.frames part.trail) (fault_says r.fault (hears r.frames part.trail))
 
-pub heard_connected : (piece : List ℕ) (part : Part) → connected (heard_part piece part).trail ≡ connected part.trail
+pub heard_connected : (piece : List ℕ) (part : Part) → is_connected (heard_part piece part).trail ≡ is_connected part.trail
 heard_connected piece part = (heard_says piece part).on
 
 -- a piece that a peer sends is its own part alone
@@ -166,35 +166,35 @@ as_itself r is = by_reply (λ (m : Msg). as_reply m ≡ m ∷ []) refl (λ numbe
 
 -- what is owed to the words that count is what was sent, and then these; and more besides
 abbrev AreDue : List Msg → Trail → Type 0
-AreDue rs t = replies_owed (counted t) ≡ replied t ++ rs
+AreDue rs t = replies_owed (counted t) ≡ replies_sent t ++ rs
 
 abbrev pub AreDueFirst : List Msg → List Msg → Trail → Type 0
-AreDueFirst rs more t = replies_owed (counted t) ≡ replied t ++ (rs ++ more)
+AreDueFirst rs more t = replies_owed (counted t) ≡ replies_sent t ++ (rs ++ more)
 
 due_all : (rs : List Msg) (t : Trail) → AreDue rs t → AreDueFirst rs [] t
-due_all rs t due = due ∙ ap (λ (xs : List Msg). replied t ++ xs) (sym (append-nil rs))
+due_all rs t due = due ∙ ap (λ (xs : List Msg). replies_sent t ++ xs) (sym (append-nil rs))
 
-reply_sent : (mode : Mode) (r : Msg) (log : Log) (p : ℕ) → IsReply r → connected (trail log p) ≡ true → has_version (trail log p) ≡ true → IsNextReply (trail log p) r → MaySendIn mode log p r
+reply_sent : (mode : Mode) (r : Msg) (log : Log) (p : ℕ) → IsReply r → is_connected (trail log p) ≡ true → has_version (trail log p) ≡ true → IsNextReply (trail log p) r → MaySendIn mode log p r
 reply_sent mode r log p is on over =
     by_reply (λ (m : Msg). IsNextReply (trail log p) m → MaySendIn mode log p m) (λ next. record { of_its_part = (on, over, next); wanted = tt; alone = tt }) (λ number next. record { of_its_part = (on, over, next); wanted = tt; alone = tt }) r is
 
 -- once the first of them is sent
 due_next : (r : Msg) (rs more : List Msg) (before after : Part) → IsReply r → after ≡ with_item (Asked r) before → AreDueFirst (r ∷ rs) more before.trail → AreDueFirst rs more after.trail
 due_next r rs more before after is here due =
-    ap (λ (x : Part). replies_owed (counted x.trail)) here ∙ due ∙ sym (append_assoc (replied before.trail) (r ∷ []) (rs ++ more))
-    ∙ ap (λ (xs : List Msg). (replied before.trail ++ xs) ++ (rs ++ more)) (sym (as_itself r is)) ∙ sym (ap (λ (x : Part). replied x.trail ++ (rs ++ more)) here)
+    ap (λ (x : Part). replies_owed (counted x.trail)) here ∙ due ∙ sym (append_assoc (replies_sent before.trail) (r ∷ []) (rs ++ more))
+    ∙ ap (λ (xs : List Msg). (replies_sent before.trail ++ xs) ++ (rs ++ more)) (sym (as_itself r is)) ∙ sym (ap (λ (x : Part). replies_sent x.trail ++ (rs ++ more)) here)
 
 reply_needed : (rule : Rule) (r : Msg) (log : Log) (p : ℕ) → IsReply r → IsCalledFor rule log p r
 reply_needed rule r log p is = by_reply (IsCalledFor rule log p) tt (λ number. tt) r is
 
 pub replies_done : {rule : Rule} (p : PeerNo) (rs more : List Msg) (log : Log) → p.0 ≤ (tally_of log).dials → AllByRecursion IsReply rs → AreSendable rs
-    → connected (trail log p.0) ≡ true → (rs ≡ []) ⊎ (has_version (trail log p.0) ≡ true) → AreDueFirst rs more (trail log p.0) → RepliesDone rule p rs log
+    → is_connected (trail log p.0) ≡ true → (rs ≡ []) ⊎ (has_version (trail log p.0) ≡ true) → AreDueFirst rs more (trail log p.0) → RepliesDone rule p rs log
 replies_done p [] more log number are sendable on over due = record { allowed = tt; here = refl; others = λ q ne. refl; count = refl }
 replies_done p (r ∷ rs) more log number are sendable on (inl none) due = absurd (let e : r ∷ rs ≡ [] = none in cc)
 replies_done {rule = rule} p (r ∷ rs) more log number are sendable on (inr over) due =
     let next = Sent p (bytes_of r) ∷ log in
     let here : part_of next p.0 ≡ with_item (Asked r) (part_of log p.0) = sent_here p r (part_of log p.0) sendable.0 in
-    let rest = replies_done {rule = rule} p rs more next number are.1 sendable.1 (ap (λ (x : Part). connected x.trail) here ∙ on) (inr (ap (λ (x : Part). has_version x.trail) here ∙ over))
+    let rest = replies_done {rule = rule} p rs more next number are.1 sendable.1 (ap (λ (x : Part). is_connected x.trail) here ∙ on) (inr (ap (λ (x : Part). has_version x.trail) here ∙ over))
     (due_next r rs more (part_of log p.0) (part_of next p.0) are.0 here due) in
     record {
       allowed = ((number, sendable.0, reply_sent rule.mode r log p.0 are.0 on over (rs ++ more, due), reply_needed rule r log p.0 are.0), rest.allowed);
@@ -206,11 +206,11 @@ replies_done {rule = rule} p (r ∷ rs) more log number are sendable on (inr ove
 -- what replies leave as it is
 pub record Unchanged (rs : List Msg) (part : Part) : Type 0 where
   pub waits : (asked_all rs part).waits ≡ part.waits
-  pub on : connected (asked_all rs part).trail ≡ connected part.trail
+  pub on : is_connected (asked_all rs part).trail ≡ is_connected part.trail
   pub first : verdict (asked_all rs part).trail ≡ verdict part.trail
   pub owes : replies_owed (asked_all rs part).trail ≡ replies_owed part.trail
-  pub replies : replied (asked_all rs part).trail ≡ replied part.trail ++ rs
-  pub greets : IsGreetedBy (asked part.trail) → IsGreetedBy (asked (asked_all rs part).trail)
+  pub replies : replies_sent (asked_all rs part).trail ≡ replies_sent part.trail ++ rs
+  pub greets : IsGreetedBy (messages_asked part.trail) → IsGreetedBy (messages_asked (asked_all rs part).trail)
   pub holds : (peer : Peer) → Holds peer part.trail → Holds peer (asked_all rs part).trail
 
 holds_asked : (r : Msg) (peer : Peer) (t : Trail) → IsReply r → Holds peer t → Holds peer (Asked r ∷ t)
@@ -222,7 +222,7 @@ no_version : (r : Msg) → IsReply r → is_version r ≡ false
 no_version r is = by_reply (λ (m : Msg). is_version m ≡ false) refl (λ number. refl) r is
 
 pub unchanged : (rs : List Msg) (part : Part) → AllByRecursion IsReply rs → Unchanged rs part
-unchanged [] part are = record { waits = refl; on = refl; first = refl; owes = refl; replies = sym (append-nil (replied part.trail)); greets = λ greeted. greeted; holds = λ peer h. h }
+unchanged [] part are = record { waits = refl; on = refl; first = refl; owes = refl; replies = sym (append-nil (replies_sent part.trail)); greets = λ is_greeted. is_greeted; holds = λ peer h. h }
 unchanged (r ∷ rs) part are =
     let more = unchanged rs (with_item (Asked r) part) are.1 in
     record {
@@ -230,12 +230,12 @@ unchanged (r ∷ rs) part are =
       on = more.on;
       first = more.first;
       owes = more.owes;
-      replies = more.replies ∙ ap (λ (xs : List Msg). (replied part.trail ++ xs) ++ rs) (as_itself r are.0) ∙ append_assoc (replied part.trail) (r ∷ []) rs;
-      greets = λ greeted. more.greets (greeted_more (asked part.trail) r (no_version r are.0) greeted);
+      replies = more.replies ∙ ap (λ (xs : List Msg). (replies_sent part.trail ++ xs) ++ rs) (as_itself r are.0) ∙ append_assoc (replies_sent part.trail) (r ∷ []) rs;
+      greets = λ is_greeted. more.greets (greeted_more (messages_asked part.trail) r (no_version r are.0) is_greeted);
       holds = λ peer h. more.holds peer (holds_asked r peer part.trail are.0 h);
     }
 
-pub asked_replied : (rs : List Msg) (part : Part) → AllByRecursion IsReply rs → replied (asked_all rs part).trail ≡ replied part.trail ++ rs
+pub asked_replied : (rs : List Msg) (part : Part) → AllByRecursion IsReply rs → replies_sent (asked_all rs part).trail ≡ replies_sent part.trail ++ rs
 asked_replied rs part are = (unchanged rs part are).replies
 
 -- what is sent changes nothing of what counts of its words
@@ -255,7 +255,7 @@ met_by p rs part end e (inr over) = inr (ap (λ (x : Part). has_version x.trail)
 due_by : (piece : List ℕ) (rs : List Msg) (start part : Part) → part ≡ heard_part piece start → IsAnswered start.trail → replies_owed (counted (heard_part piece start).trail) ≡ replies_owed start.trail ++ rs → AreDue rs part.trail
 due_by piece rs start part here answered owes =
     ap (λ (x : Part). replies_owed (counted x.trail)) here ∙ owes ∙ ap (λ (xs : List Msg). xs ++ rs) (sym answered.replies ∙ sym (heard_says piece start).replies)
-    ∙ sym (ap (λ (x : Part). replied x.trail ++ rs) here)
+    ∙ sym (ap (λ (x : Part). replies_sent x.trail ++ rs) here)
 
 pub sendable_by : (p : PeerNo) (rs : List Msg) → All IsDoable (sends p rs) → AreSendable rs
 sendable_by p [] h = tt
@@ -274,7 +274,7 @@ unomitted_sends p (r ∷ rs) log q is = unomitted_sends p rs (Sent p (bytes_of r
 
 -- a piece of a connected peer, all of which is taken
 whole_at : {rule : Rule} (places : List Place) (log : Log) (p : PeerNo) (piece : List ℕ) (peer : Peer) (seen now : Seen) (acts : List Act)
-    → p.0 < length places → PlacesStand places log → connected (trail log p.0) ≡ true → IsAnswered (trail log p.0)
+    → p.0 < length places → PlacesStand places log → is_connected (trail log p.0) ≡ true → IsAnswered (trail log p.0)
     → (whole : HeardWhole p peer seen now [] acts (part_of log p.0) (heard_part piece (part_of log p.0))) → AreSendable whole.replies
     → Goes rule (set places p.0 (Here peer)) acts (Took (Got p piece) ∷ log)
 whole_at {rule = rule} places log p piece peer seen now acts lt stand on answered whole sendable =
@@ -282,7 +282,7 @@ whole_at {rule = rule} places log p piece peer seen now acts lt stand on answere
     let rs = whole.replies in
     let here = heard_log p piece log in
     let part = heard_part piece (part_of log p.0) in
-    let up : connected (trail next p.0) ≡ true = ap (λ (x : Part). connected x.trail) here ∙ heard_connected piece (part_of log p.0) ∙ on in
+    let up : is_connected (trail next p.0) ≡ true = ap (λ (x : Part). is_connected x.trail) here ∙ heard_connected piece (part_of log p.0) ∙ on in
     let done = replies_done {rule = rule} p rs [] next (number_within places log p.0 stand lt) whole.are.each sendable up (met_by p rs (part_of next p.0) part here whole.are.after_version)
     (due_all rs (trail next p.0) (due_by piece rs (part_of log p.0) (part_of next p.0) here answered ((same_use part.trail whole.holds.on whole.holds.clean).owing ∙ whole.owes))) in
     let same = unchanged rs part whole.are.each in
@@ -320,7 +320,7 @@ pub place_keeps : (places : List Place) (log : Log) (p : PeerNo) (peer : Peer) �
 place_keeps places log p peer here stand = subst (λ (x : Place). Fits x (part_of log p.0)) here (stand.each p.0)
 
 -- what is kept of a connected peer's chain and claims
-pub follows_is : (seen : Seen) (log : Log) (p : ℕ) → Tracks seen log → connected (trail log p) ≡ true → verdict (trail log p) ≡ None → Follows seen p (trail log p)
+pub follows_is : (seen : Seen) (log : Log) (p : ℕ) → Tracks seen log → is_connected (trail log p) ≡ true → verdict (trail log p) ≡ None → Follows seen p (trail log p)
 follows_is seen log p tracks on clean =
     let t = trail log p in
     record {
@@ -389,7 +389,7 @@ whole_tracks places log p piece old peer seen now before acts none here stand tr
 
 -- a piece in which a frame deserves a cause: the peer is closed
 fault_at : {rule : Rule} (places : List Place) (log : Log) (p : PeerNo) (piece : List ℕ) (cause : Cause) (seen now : Seen) (acts : List Act)
-    → p.0 < length places → PlacesStand places log → connected (trail log p.0) ≡ true → IsAnswered (trail log p.0)
+    → p.0 < length places → PlacesStand places log → is_connected (trail log p.0) ≡ true → IsAnswered (trail log p.0)
     → (fault : HeardFault p seen now [] acts (part_of log p.0) (heard_part piece (part_of log p.0)) cause) → AreSendable fault.replies
     → (part_of (after (sends p fault.replies) (Took (Got p piece) ∷ log)) p.0
     ≡ asked_all fault.replies (heard_part piece (part_of log p.0))
@@ -400,18 +400,18 @@ fault_at {rule = rule} places log p piece cause seen now acts lt stand on answer
     let rs = fault.replies in
     let here = heard_log p piece log in
     let part = heard_part piece (part_of log p.0) in
-    let on_then : connected (trail next p.0) ≡ true = ap (λ (x : Part). connected x.trail) here ∙ heard_connected piece (part_of log p.0) ∙ on in
+    let on_then : is_connected (trail next p.0) ≡ true = ap (λ (x : Part). is_connected x.trail) here ∙ heard_connected piece (part_of log p.0) ∙ on in
     let number = number_within places log p.0 stand lt in
     let done = replies_done {rule = rule} p rs [] next number fault.are.each sendable on_then (met_by p rs (part_of next p.0) part here fault.are.after_version)
     (due_all rs (trail next p.0) (due_by piece rs (part_of log p.0) (part_of next p.0) here answered fault.owes)) in
     let same = unchanged rs part fault.are.each in
     let later = after (sends p rs) next in
     let at_end : part_of later p.0 ≡ asked_all rs part = done.here ∙ ap (asked_all rs) here in
-    let up : connected (trail later p.0) ≡ true = ap (λ (x : Part). connected x.trail) at_end ∙ same.on ∙ heard_connected piece (part_of log p.0) ∙ on in
+    let up : is_connected (trail later p.0) ≡ true = ap (λ (x : Part). is_connected x.trail) at_end ∙ same.on ∙ heard_connected piece (part_of log p.0) ∙ on in
     let guilty : verdict (trail later p.0) ≡ Some cause = ap (λ (x : Part). verdict x.trail) at_end ∙ same.first ∙ fault.first in
     let due = due_by piece rs (part_of log p.0) (part_of next p.0) here answered fault.owes in
-    let replied_all : replied (trail later p.0) ≡ replies_owed (counted (trail later p.0)) =
-    ap (λ (x : Part). replied x.trail) done.here ∙ asked_replied rs (part_of next p.0) fault.are.each ∙ sym due ∙ asked_owes rs (part_of next p.0) ∙ sym (ap (λ (x : Part). replies_owed (counted x.trail)) done.here) in
+    let replied_all : replies_sent (trail later p.0) ≡ replies_owed (counted (trail later p.0)) =
+    ap (λ (x : Part). replies_sent x.trail) done.here ∙ asked_replied rs (part_of next p.0) fault.are.each ∙ sym due ∙ asked_owes rs (part_of next p.0) ∙ sym (ap (λ (x : Part). replies_owed (counted x.trail)) done.here) in
     let end = ClosedFor cause in
     let mine : IsLost end (part_of (Closed p ∷ later) p.0).trail =
     subst (λ (x : Part). IsLost end x.trail) (sym (closed_here p (part_of later p.0))) (shut_now (trail later p.0) cause up (inl (up, guilty))) in
@@ -630,7 +630,7 @@ cut_goes places log cut p lt stand is = record {
     named = named_set places p.0 (Lost (ClosedFor SendFailed)) log (Closed p ∷ cut) lt stand.named
         (λ right. is.rightly right.1)
         (λ right omitted. absurd (elim omitted [
-          | inl now ↦ both_ways (connected (trail cut p.0)) is.off now.1.there
+          | inl now ↦ both_ways (is_connected (trail cut p.0)) is.off now.1.there
           | inr before ↦ is.cleared before
         ]))
         (λ q other omitted. is.unomitted q other (unomitted_close p cut q other omitted));
@@ -642,7 +642,7 @@ cut_goes places log cut p lt stand is = record {
           (subst (λ t. Fits (get_or places q nobody) t) (sym (closed_others p q (part_of cut q) other ∙ is.others q other)) (stand.each q))
     ];
   };
-  allowed = ((omega (arith, number_within places log p.0 stand lt, is.dials), inl (inr (inl (refl, is.broken))), inl (λ sound. absurd (both_ways (failed (trail cut p.0)) sound is.broken)), λ right omits. absurd (both_ways (connected (trail cut p.0)) is.off omits.there)), tt);
+  allowed = ((omega (arith, number_within places log p.0 stand lt, is.dials), inl (inr (inl (refl, is.broken))), inl (λ sound. absurd (both_ways (has_failed (trail cut p.0)) sound is.broken)), λ right omits. absurd (both_ways (is_connected (trail cut p.0)) is.off omits.there)), tt);
 }
 
 pub cut_moves : (mode : Mode) (d : Desk) (p : PeerNo) (after : Seen) → d.acts ≡ [] → p.0 < length d.places → IsInOrder d → IsPut d.seen after p.0 None no_claims

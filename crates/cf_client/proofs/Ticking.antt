@@ -13,7 +13,7 @@ use Rattle.cf_peer.specs.declared.mode.Mode.{Mode}
 use Rattle.cf_peer.specs.declared.mode.Mode.TheVariants.{Once, Following}
 use Rattle.cf_peer.specs.Asking.{is_open, is_ping, is_request, pings}
 use Rattle.cf_peer.specs.Peer.{is_idle_peer}
-use Rattle.cf_peer.specs.Trail.{Part, connected, part_of, trail}
+use Rattle.cf_peer.specs.Trail.{Part, is_connected, part_of, trail}
 use Rattle.cf_peer.proofs.Peers.{open_by}
 use Rattle.cf_wires.specs.declared.event.Delivery.{Delivery}
 use Rattle.cf_wires.specs.declared.event.Delivery.TheVariants.{Got, Gone, Tick, Ended}
@@ -29,14 +29,14 @@ use Rattle.cf_client.proofs.Ordering.{shut}
 use Rattle.cf_client.proofs.Standing.{closed_here, closed_others}
 
 -- a connected peer that waits for nothing was sent all pings that have numbers
-place_pinged : (place : Place) (part : Part) → Fits place part → connected part.trail ≡ true
+place_pinged : (place : Place) (part : Part) → Fits place part → is_connected part.trail ≡ true
     → (is_idle place ≡ true → HasPingedOut place)
     → (is_open part.trail ≡ true) ⊎ (pings part.trail ≡ 18446744073709551615)
 place_pinged (Here peer) part keeps on out = elim (cases_Bool (is_idle_peer peer)) [
   | inl idle ↦ inr (sym keeps.holds.numbered ∙ out idle)
   | inr busy ↦ inl (open_by peer part.trail keeps.holds ∙ ap (λ (b : Bool). not b) busy)
 ]
-place_pinged (Lost loss) part lost on out = absurd (both_ways (connected part.trail) lost.off on)
+place_pinged (Lost loss) part lost on out = absurd (both_ways (is_connected part.trail) lost.off on)
 
 -- what was asked after the pings leaves nobody idle that wasn't
 pub are_pinged : (mode : Mode) (d : Delivery) (before now : List Place) (log : Log) → HasPinged mode d before

@@ -12,9 +12,9 @@ use Rattle.cf_hear.specs.Tracks.{chain_kept}
 use Rattle.cf_match.specs.declared.job.Job.{Job}
 use Rattle.cf_msg.specs.declared.msg.Msg.{Msg}
 use Rattle.cf_msg.specs.declared.msg.Msg.TheVariants.{Cfheaders}
-use Rattle.cf_peer.specs.Trail.{Trail, Part, part_of, Called, Said, Refused, Asked, Passed, Lost, trail, connected, own}
+use Rattle.cf_peer.specs.Trail.{Trail, Part, part_of, Called, Said, Refused, Asked, Passed, Lost, trail, is_connected, own}
 use Rattle.cf_peer.specs.declared.mode.Mode.TheVariants.{Following}
-use Rattle.cf_peer.specs.Asking.{OpenRequest, NothingOpen, HeadersOpen, ClaimsOpen, FiltersOpen, BlockOpen, PingOpen, is_answer_of, request, counted, fetched, given}
+use Rattle.cf_peer.specs.Asking.{OpenRequest, NothingOpen, HeadersOpen, ClaimsOpen, FiltersOpen, BlockOpen, PingOpen, is_answer_of, request, counted, fetched_blocks, given_filters}
 use Rattle.cf_sync.specs.Fetching.{IsConnected, IsGiven, RightlyIn}
 use Rattle.cf_tables.specs.Held.{CountsBlocks, CountsOutputs, CountsVerdicts}
 use Rattle.cf_wires.specs.Log.{Log, tally_of}
@@ -36,11 +36,11 @@ of_all f log = below (λ (p : ℕ). f (trail log p)) ((tally_of log).dials + 1)
 
 -- the blocks that were fetched, and the filters that were given, of whatever peer
 abbrev pub blocks_fetched : Trail → List Block
-blocks_fetched t = fetched (counted t)
+blocks_fetched t = fetched_blocks (counted t)
 
 -- the filters that came in whole answers
 abbrev pub filters_given : Trail → List Job
-filters_given t = given (counted t)
+filters_given t = given_filters (counted t)
 
 -- the filter hashes of an answer to an open question for claims
 abbrev pub hashes_told : Msg → OpenRequest → List Hash32
@@ -56,7 +56,7 @@ hashes_claimed (_ ∷ t) = hashes_claimed t
 
 -- those that count, while the peer is connected
 abbrev pub hashes_kept : Trail → List Hash32
-hashes_kept t = if connected t then hashes_claimed (counted t) else []
+hashes_kept t = if is_connected t then hashes_claimed (counted t) else []
 
 -- the filters that have come of an open request
 abbrev pub filters_in : OpenRequest → List Job
@@ -69,7 +69,7 @@ filters_in (PingOpen number) = []
 
 -- those of a connected peer's open request
 abbrev pub filters_kept : Trail → List Job
-filters_kept t = if connected t then filters_in (request t) else []
+filters_kept t = if is_connected t then filters_in (request t) else []
 
 -- how many have come of what is open to the peer at a place
 abbrev pub came_at : Place → ℕ
@@ -87,7 +87,7 @@ is_for_filters (PingOpen number) = false
 
 -- filters are open to a connected peer
 abbrev pub is_giving : Trail → Bool
-is_giving t = connected t && is_for_filters (request t)
+is_giving t = is_connected t && is_for_filters (request t)
 
 -- to how many peers filters are open
 abbrev pub count_giving : Log → ℕ
@@ -108,7 +108,7 @@ most_at places n = greatest_below (λ (p : ℕ). waiting_at (place_at places p))
 
 -- how many bytes of a connected peer are no whole frame yet
 abbrev pub bytes_waiting : Part → ℕ
-bytes_waiting part = if connected part.trail then length part.waits else 0
+bytes_waiting part = if is_connected part.trail then length part.waits else 0
 
 -- how many of the peer of which the most are none
 abbrev pub most_waiting : Log → ℕ

@@ -14,7 +14,7 @@ use Rattle.cf_block.specs.Output.{Output}
 use Rattle.cf_block.specs.Outpoint.{outpoint, spends_of}
 use Rattle.cf_block.specs.Commitment.{is_coinbase_tx}
 use Rattle.cf_block.specs.Tx.{txid_of}
-use Rattle.cf_chain.specs.Coins.{CoinMap, without, with_outputs, after_tx, spent as spent_of, spent_by}
+use Rattle.cf_chain.specs.Coins.{CoinMap, without, with_outputs, after_tx, spent_outputs as spent_of, spent_by}
 use Rattle.cf_chain.specs.Good.{AllStand, NoneStands, IsGoodTx, AreGoodTxs, NoCoinbases, HasOneCoinbase}
 use Rattle.cf_coins.specs.declared.fault.CoinFault.{CoinFault}
 use Rattle.cf_coins.specs.declared.fault.CoinFault.TheVariants.{NoCoinbase, SecondCoinbase, Exists}

@@ -19,7 +19,7 @@ use Rattle.cf_block.proofs.Outpoints.{outpoint_total, same_name}
 use Rattle.cf_coins.specs.declared.fault.CoinFault.{CoinFault}
 use Rattle.cf_coins.specs.declared.fault.CoinFault.TheVariants.{Exists}
 use Rattle.cf_coins.specs.Spending.{found, take_all, put_all, spend, spend_all, coinbase_fault, unless_fault, spend_txs, Refuses}
-use Rattle.cf_coins.specs.Touching.{places, names_of, touched, with_found, with_named}
+use Rattle.cf_coins.specs.Touching.{places, names_of, touched_outpoints, with_found, with_named}
 
 -- ---- the same under names
 
@@ -96,14 +96,14 @@ spend_alike a b t qs same =
     (take_alike a b (spends_of t) (made ++ qs) split)
     (λ c d rest. put_alike (txid_of t) 0 c d t.outputs qs rest)
 
-all_alike : (a b : CoinMap) (ts : List Tx) → SameUnder a b (touched ts) → Alike (spend_all a ts) (spend_all b ts) []
-unfolding spend_all touched
+all_alike : (a b : CoinMap) (ts : List Tx) → SameUnder a b (touched_outpoints ts) → Alike (spend_all a ts) (spend_all b ts) []
+unfolding spend_all touched_outpoints
 all_alike a b [] same = tt
 all_alike a b (t ∷ ts) same =
-    then_alike (spend a t) (spend b t) (λ c. spend_all c ts) (touched ts) [] (spend_alike a b t (touched ts) same)
+    then_alike (spend a t) (spend b t) (λ c. spend_all c ts) (touched_outpoints ts) [] (spend_alike a b t (touched_outpoints ts) same)
     (λ c d rest. all_alike c d ts rest)
 
-txs_alike : (a b : CoinMap) (ts : List Tx) → SameUnder a b (touched ts) → Alike (spend_txs a ts) (spend_txs b ts) []
+txs_alike : (a b : CoinMap) (ts : List Tx) → SameUnder a b (touched_outpoints ts) → Alike (spend_txs a ts) (spend_txs b ts) []
 unfolding spend_txs
 txs_alike a b ts same = by_fault (coinbase_fault ts) (all_alike a b ts same) where
   by_fault : (f : Option CoinFault) → Alike (spend_all a ts) (spend_all b ts) []
@@ -163,13 +163,13 @@ copied_all coins few (q ∷ qs) part =
       copied_all coins more qs (part_more few coins q (get coins q) refl part),
     )
 
-few_alike : (coins few : CoinMap) (ts : List Tx) → few ≡ with_named coins empty (touched ts) → Alike (spend_txs few ts) (spend_txs coins ts) []
+few_alike : (coins few : CoinMap) (ts : List Tx) → few ≡ with_named coins empty (touched_outpoints ts) → Alike (spend_txs few ts) (spend_txs coins ts) []
 few_alike coins few ts is =
-    txs_alike few coins ts (subst (λ (m : CoinMap). SameUnder m coins (touched ts)) (sym is) (copied_all coins empty (touched ts) (none_part coins)))
+    txs_alike few coins ts (subst (λ (m : CoinMap). SameUnder m coins (touched_outpoints ts)) (sym is) (copied_all coins empty (touched_outpoints ts) (none_part coins)))
 
 -- ---- what the judgement of the few says
 
-pub judged_good : (coins few new : CoinMap) (ts : List Tx) → few ≡ with_named coins empty (touched ts) → spend_txs few ts ≡ Ok new
+pub judged_good : (coins few new : CoinMap) (ts : List Tx) → few ≡ with_named coins empty (touched_outpoints ts) → spend_txs few ts ≡ Ok new
     → (after : CoinMap) × (spend_txs coins ts ≡ Ok after)
 judged_good coins few new ts is good = by_answer (spend_txs few ts) (spend_txs coins ts) good (few_alike coins few ts is) where
   by_answer : (r s : Result CoinMap CoinFault) → r ≡ Ok new → Alike r s [] → (after : CoinMap) × (s ≡ Ok after)
@@ -182,7 +182,7 @@ fault_judged (Ok a) s f is alike = cc
 fault_judged (Err x) (Ok b) f is alike = absurd alike
 fault_judged (Err x) (Err y) f is alike = cc
 
-pub judged_bad : (coins few : CoinMap) (ts : List Tx) (e : Refused CoinFault) → few ≡ with_named coins empty (touched ts)
+pub judged_bad : (coins few : CoinMap) (ts : List Tx) (e : Refused CoinFault) → few ≡ with_named coins empty (touched_outpoints ts)
     → Refuses (spend_txs few ts) e → Refuses (spend_txs coins ts) e
 judged_bad coins few ts (No f) is bad = fault_judged (spend_txs few ts) (spend_txs coins ts) f bad (few_alike coins few ts is)
 judged_bad coins few ts NoMemory is bad = tt
@@ -208,21 +208,21 @@ named_by_both coins few mid new t txid os hash outputs first second =
     ∙ ap (λ (x : List Output). with_named coins (with_named coins few (spends_of t)) (places (txid_of t) 0 x)) outputs
     ∙ sym (named_append coins few (spends_of t) (places (txid_of t) 0 t.outputs))
 
-touched_more : (ts : List Tx) (i : ℕ) (d : Tx) → i < length ts → touched (drop i ts) ≡ names_of (get_or ts i d) ++ touched (drop (i + 1) ts)
-unfolding touched
+touched_more : (ts : List Tx) (i : ℕ) (d : Tx) → i < length ts → touched_outpoints (drop i ts) ≡ names_of (get_or ts i d) ++ touched_outpoints (drop (i + 1) ts)
+unfolding touched_outpoints
 touched_more ts i d lt = rw (add-one, drop-cons ts i d) refl
 
 pub touched_next : (coins few new : CoinMap) (t d : Tx) (ts : List Tx) (i : ℕ) → i < length ts → t ≡ get_or ts i d
     → new ≡ with_named coins few (names_of t)
-    → with_named coins few (touched (drop i ts)) ≡ with_named coins new (touched (drop (i + 1) ts))
+    → with_named coins few (touched_outpoints (drop i ts)) ≡ with_named coins new (touched_outpoints (drop (i + 1) ts))
 touched_next coins few new t d ts i lt at is =
-    let rest : List OutPoint = touched (drop (i + 1) ts) in
+    let rest : List OutPoint = touched_outpoints (drop (i + 1) ts) in
     ap (with_named coins few) (touched_more ts i d lt)
     ∙ ap (λ (x : Tx). with_named coins few (names_of x ++ rest)) (sym at)
     ∙ named_append coins few (names_of t) rest
     ∙ ap (λ (m : CoinMap). with_named coins m rest) (sym is)
 
-pub touched_none : (coins few : CoinMap) (ts : List Tx) → length ts ≡ 0 → with_named coins few (touched ts) ≡ few
-unfolding touched
+pub touched_none : (coins few : CoinMap) (ts : List Tx) → length ts ≡ 0 → with_named coins few (touched_outpoints ts) ≡ few
+unfolding touched_outpoints
 touched_none coins few [] is = refl
 touched_none coins few (t ∷ ts) is = absurd (omega arith)

@@ -21,9 +21,9 @@ unfoldable pub names_of : Tx → List OutPoint
 names_of t = spends_of t ++ places (txid_of t) 0 t.outputs
 
 -- those that transactions touch
-unfoldable pub touched : List Tx → List OutPoint
-touched [] = []
-touched (t ∷ ts) = names_of t ++ touched ts
+unfoldable pub touched_outpoints : List Tx → List OutPoint
+touched_outpoints [] = []
+touched_outpoints (t ∷ ts) = names_of t ++ touched_outpoints ts
 
 -- these coins and what was found under a name
 abbrev pub with_found : CoinMap → OutPoint → Option Output → CoinMap

@@ -3,7 +3,7 @@ ghost use Rattle.std.specs.Prelude.{◌≡◌, ◌<◌, ◌^◌, length, OnOk, A
 ghost use Rattle.std.specs.FinMap.{get};
 ghost use Rattle.cf_block.specs.{AreTxids, spends_of, IsBlock, txid_of};
 ghost use Rattle.cf_coins.specs.Spending.{prevs, spend_txs};
-ghost use Rattle.cf_coins.specs.Touching.{Judges, names_of, places, touched, with_found, with_named};
+ghost use Rattle.cf_coins.specs.Touching.{Judges, names_of, places, touched_outpoints, with_found, with_named};
 
 use crate::coins::Coins;
 use crate::fault::CoinFault;
@@ -42,7 +42,7 @@ fn copy_touched(
 ) -> Result<(), NoMemory>
     requires outputs { All (λ t. length t.outputs < 2 ^ 32) txs.now }
     requires hashes { AreTxids txids.now txs.now }
-    ensures { OnOk result (few.new ≡ with_named coins.now few.old (touched txs.now)) }
+    ensures { OnOk result (few.new ≡ with_named coins.now few.old (touched_outpoints txs.now)) }
 {
     for (i, tx) in txs.iter().enumerate() {
         copy_names(alloc, coins, tx, txids[i], few)?;

@@ -2,7 +2,7 @@
 ghost use Rattle.std.specs.Prelude.{◌≡◌, ◌++◌, ◌<◌, ◌^◌, length, IfOk, OnOk, MatchResult, All, Ok, Err};
 ghost use Rattle.std.specs.List.{list_any};
 ghost use Rattle.cf_block.specs.{AreTxids, is_coinbase_tx, spends_of, IsBlock, txid_of};
-ghost use Rattle.cf_chain.specs.{spent as spent_of, spent_by, after_tx, after_block, prevouts};
+ghost use Rattle.cf_chain.specs.{spent_outputs as spent_of, spent_by, after_tx, after_block, prevouts};
 ghost use Rattle.cf_coins.specs.Spending.{prevs, scripts_of, take_all, put_all, spend, spend_all, spend_txs, coinbase_fault as coinbase_fault_of, Gives};
 
 use crate::coins::Coins;

@@ -25,7 +25,7 @@ use Rattle.cf_make.proofs.MadeLaws.{extension_one}
 use Rattle.cf_wires.specs.declared.event.Delivery.TheVariants.{Ended as EndedFirst}
 use Rattle.cf_wires.specs.declared.event.Event.TheVariants.{Took}
 use Rattle.cf_wires.specs.Log.{Log, tally_of}
-use Rattle.cf_peer.specs.Trail.{trail, connected, ready}
+use Rattle.cf_peer.specs.Trail.{trail, is_connected, ready}
 use Rattle.cf_peer.specs.Asking.{is_idle, request}
 use Rattle.cf_played.specs.declared.kind.Way.TheVariants.{Honest, Omits, Silent}
 use Rattle.cf_played.specs.Answers.{is_staying}
@@ -55,7 +55,7 @@ goes_on NoPeers log why stays is = cc
 goes_on Tired log why stays is = cc
 goes_on Ended log why stays is = never_ended log why.0 stays why.1.0
 
-left : (end : End) (log : Log) → IsEnd end log → end ≡ NoPeers → (p : ℕ) → connected (trail log p) ≡ false
+left : (end : End) (log : Log) → IsEnd end log → end ≡ NoPeers → (p : ℕ) → is_connected (trail log p) ≡ false
 left Synced log why is = cc
 left NoPeers log why is = why
 left Tired log why is = cc
@@ -67,7 +67,7 @@ off_shut false r off = refl
 
 at_rest : (end : End) (log : Log) → IsEnd end log → list_all is_staying log ≡ true → (end ≡ Tired → (tally_of log).taken ≡ most_deliveries) → IsQuiet log ⊎ ((tally_of log).taken ≡ most_deliveries)
 at_rest Synced log why stays tired = inl why.0
-at_rest NoPeers log why stays tired = inl (λ p. off_shut (connected (trail log p)) (not (ready (trail log p)) || not (is_idle (request (trail log p)))) (why p))
+at_rest NoPeers log why stays tired = inl (λ p. off_shut (is_connected (trail log p)) (not (ready (trail log p)) || not (is_idle (request (trail log p)))) (why p))
 at_rest Tired log why stays tired = inr (tired refl)
 at_rest Ended log why stays tired = absurd (never_ended log why.0 stays why.1.0)
 
@@ -171,7 +171,7 @@ demo_on seed blocks peers o demo log small low h ran told =
           let at : slice_get peers 2 ≡ Some (peer_on Honest h.added.third) = ap (λ (ps : List Peer). slice_get ps 2) h.added.are in
           let honest : IsHonest log 3 h.added.third = ran.honest 2 (peer_on Honest h.added.third) at refl (omega arith) (subst (λ (b : List Block). NoHashClash (IsHashed log b)) (sym same) clash) in
           let here = ran.theorem.somebody 3 h.chain clash (subst (λ (b : List Block). IsHonest log 3 b) same honest) in
-          both_ways (connected (trail log 3)) (left o.end log ran.followed.why (sym told.end ∙ is) 3) here;
+          both_ways (is_connected (trail log 3)) (left o.end log ran.followed.why (sym told.end ∙ is) 3) here;
       tired = λ is. ran.tired (sym told.end ∙ is);
       unended = λ is. goes_on o.end log ran.followed.why ran.accounts.stays (sym told.end ∙ is);
     }

@@ -6,14 +6,14 @@ use Rattle.cf_msg.specs.declared.msg.Msg.{Msg}
 use Rattle.cf_msg.specs.declared.msg.Msg.TheVariants.{Version}
 use Rattle.cf_wires.specs.declared.event.Event.TheVariants.{Dialled, NotDialled, Sent, SendFailed, Closed, Took}
 use Rattle.cf_wires.specs.Log.{Log}
-use Rattle.cf_peer.specs.Trail.{Trail, Called, Said, Refused, Asked, Passed, Lost, trail, connected, greeted, is_version, IsClientVersion}
-use Rattle.cf_sync.specs.Honesty.{asked}
+use Rattle.cf_peer.specs.Trail.{Trail, Called, Said, Refused, Asked, Passed, Lost, trail, is_connected, is_greeted, is_version, IsClientVersion}
+use Rattle.cf_sync.specs.Honesty.{messages_asked}
 use Rattle.cf_place.specs.Standing.{IsGreetedBy}
 use Rattle.cf_run.specs.Run.{WasOrderly}
 
 -- whenever a delivery was taken each connected peer had been sent a version
 abbrev pub IsGreetedWhere : Trail → Type 0
-IsGreetedWhere t = connected t ≡ true → greeted t ≡ true
+IsGreetedWhere t = is_connected t ≡ true → is_greeted t ≡ true
 
 abbrev pub WereGreeted : Log → Type 0
 WereGreeted [] = Unit {0}
@@ -33,12 +33,12 @@ any_last : (xs : List Msg) (m : Msg) → list_any is_version (xs ++ m ∷ []) �
 any_last [] m = refl
 any_last (x ∷ xs) m = ap (λ b. is_version x || b) (any_last xs m) ∙ swap (is_version x) (is_version m) (list_any is_version xs)
 
-any_greeted : (t : Trail) → list_any is_version (asked t) ≡ greeted t
+any_greeted : (t : Trail) → list_any is_version (messages_asked t) ≡ is_greeted t
 any_greeted [] = refl
 any_greeted (Called ∷ t) = refl
 any_greeted (Said m ∷ t) = any_greeted t
 any_greeted (Refused c ∷ t) = any_greeted t
-any_greeted (Asked m ∷ t) = any_last (asked t) m ∙ ap (λ b. is_version m || b) (any_greeted t)
+any_greeted (Asked m ∷ t) = any_last (messages_asked t) m ∙ ap (λ b. is_version m || b) (any_greeted t)
 any_greeted (Passed s ∷ t) = any_greeted t
 any_greeted (Lost w ∷ t) = any_greeted t
 
@@ -57,4 +57,4 @@ were_greeted (NotDialled p name ∷ log) order = were_greeted log order
 were_greeted (Sent p bytes ∷ log) order = were_greeted log order
 were_greeted (SendFailed p ∷ log) order = were_greeted log order.1
 were_greeted (Closed p ∷ log) order = were_greeted log order.1
-were_greeted (Took d ∷ log) order = ((λ p on. sym (any_greeted (trail log p)) ∙ by_greeting (asked (trail log p)) (order.0.answered p on).greeted), were_greeted log order.1)
+were_greeted (Took d ∷ log) order = ((λ p on. sym (any_greeted (trail log p)) ∙ by_greeting (messages_asked (trail log p)) (order.0.answered p on).greeted), were_greeted log order.1)

@@ -17,10 +17,10 @@ use Rattle.cf_wires.specs.declared.event.Event.TheVariants.{Dialled, NotDialled,
 use Rattle.cf_wires.specs.declared.event.Mark.{Mark}
 use Rattle.cf_wires.specs.declared.event.Mark.TheVariants as mark
 use Rattle.cf_wires.specs.Log.{Log, tally_of}
-use Rattle.cf_peer.specs.Trail.{Trail, Part, Lost, called_part, with_item, item_of, item_of_read, hears, hears_fault, part_after, heard_part, spelled, asks, part_of, trail, connected}
+use Rattle.cf_peer.specs.Trail.{Trail, Part, Lost, called_part, with_item, item_of, item_of_read, hears, hears_fault, part_after, heard_part, spelled, asks, part_of, trail, is_connected}
 use Rattle.cf_peer.specs.Asking.{MayAsk}
 use Rattle.cf_sync.specs.Fetching.{Rightly}
-use Rattle.cf_sync.specs.Honesty.{asked, messages_said, IsSpelled}
+use Rattle.cf_sync.specs.Honesty.{messages_asked, messages_said, IsSpelled}
 use Rattle.cf_sync.proofs.Entries.{at_either}
 use Rattle.cf_played.specs.Answers.{came, told_to}
 use Rattle.cf_run.specs.Run.{AreNumbered}
@@ -39,11 +39,11 @@ said_hears (f ∷ fs) t =
     ∙ ap (λ ms. ms ++ words fs) (said_item (message_of f) t)
     ∙ append_assoc (messages_said t) (word_of (message_of f)) (words fs)
 
-asked_item : (r : Result Msg Malformed) (t : Trail) → asked (item_of_read r ∷ t) ≡ asked t
+asked_item : (r : Result Msg Malformed) (t : Trail) → messages_asked (item_of_read r ∷ t) ≡ messages_asked t
 asked_item (Ok m) t = refl
 asked_item (Err e) t = refl
 
-pub asked_hears : (fs : List Frame) (t : Trail) → asked (hears fs t) ≡ asked t
+pub asked_hears : (fs : List Frame) (t : Trail) → messages_asked (hears fs t) ≡ messages_asked t
 asked_hears [] t = refl
 asked_hears (f ∷ fs) t = asked_hears fs (item_of f ∷ t) ∙ asked_item (message_of f) t
 
@@ -65,7 +65,7 @@ pub record IsClean (bytes : List ℕ) : Type 0 where
 pub record Agrees (part : Part) (bytes : List ℕ) (told : List Msg) : Type 0 where
   pub waits : part.waits ≡ (read_stream bytes).rest
   pub says : messages_said part.trail ≡ words (read_stream bytes).frames
-  pub asks_these : asked part.trail ≡ told
+  pub asks_these : messages_asked part.trail ≡ told
   pub spells : IsSpelled part.trail
 
 -- after more bytes
@@ -74,10 +74,10 @@ piece_reads : (bytes piece : List ℕ) → (read_stream bytes).fault ≡ None
 piece_reads bytes piece e = stream_joined bytes piece ∙ ap (λ (o : Option FrameFault). continued o (read_stream bytes) piece) e
 
 -- a stream without a fault is heard
-heard_on : (r s : StreamRead) (t : Trail) (told : List Msg) (fs : List Frame) → s.fault ≡ None → messages_said t ≡ words fs → asked t ≡ told → IsSpelled t → AreMessages s.frames
-    → r ≡ with_frames fs s → (messages_said (part_after s t).trail ≡ words r.frames) × (asked (part_after s t).trail ≡ told) × IsSpelled (part_after s t).trail
+heard_on : (r s : StreamRead) (t : Trail) (told : List Msg) (fs : List Frame) → s.fault ≡ None → messages_said t ≡ words fs → messages_asked t ≡ told → IsSpelled t → AreMessages s.frames
+    → r ≡ with_frames fs s → (messages_said (part_after s t).trail ≡ words r.frames) × (messages_asked (part_after s t).trail ≡ told) × IsSpelled (part_after s t).trail
 heard_on r s t told fs clean says ask spells all is =
-    let P : Option FrameFault → Type 0 = λ o. (messages_said (hears_fault o (hears s.frames t)) ≡ words r.frames) × (asked (hears_fault o (hears s.frames t)) ≡ told) × IsSpelled (hears_fault o (hears s.frames t)) in
+    let P : Option FrameFault → Type 0 = λ o. (messages_said (hears_fault o (hears s.frames t)) ≡ words r.frames) × (messages_asked (hears_fault o (hears s.frames t)) ≡ told) × IsSpelled (hears_fault o (hears s.frames t)) in
     subst P (sym clean) (
       said_hears s.frames t ∙ ap (λ ms. ms ++ words s.frames) says ∙ sym (words_append fs s.frames) ∙ ap (λ (x : StreamRead). words x.frames) (sym is),
       asked_hears s.frames t ∙ ask,
@@ -118,7 +118,7 @@ called_step part = record {
 
 -- ---- who may be asked is there
 
-pub asked_there : (t : Trail) (m : Msg) → MayAsk t m → connected t ≡ true
+pub asked_there : (t : Trail) (m : Msg) → MayAsk t m → is_connected t ≡ true
 asked_there t (Version version services time to from nonce agent height relay) h = h.0
 asked_there t Verack h = h.0
 asked_there t (Pong n) h = h.0
@@ -132,24 +132,24 @@ asked_there t m h = absurd h
 
 -- before it is dialled a peer isn't there, and is told nothing
 pub record IsAway (part : Part) (told : List Msg) : Type 0 where
-  pub off : connected part.trail ≡ false
+  pub off : is_connected part.trail ≡ false
   pub none : told ≡ []
 
 abbrev pub IsOff : Part → Type 0
-IsOff part = connected part.trail ≡ false
+IsOff part = is_connected part.trail ≡ false
 
-off_hears : (fs : List Frame) (t : Trail) → connected (hears fs t) ≡ connected t
+off_hears : (fs : List Frame) (t : Trail) → is_connected (hears fs t) ≡ is_connected t
 off_hears [] t = refl
 off_hears (f ∷ fs) t = off_hears fs (item_of f ∷ t) ∙ off_item (message_of f) t where
-  off_item : (r : Result Msg Malformed) (t : Trail) → connected (item_of_read r ∷ t) ≡ connected t
+  off_item : (r : Result Msg Malformed) (t : Trail) → is_connected (item_of_read r ∷ t) ≡ is_connected t
   off_item (Ok m) t = refl
   off_item (Err e) t = refl
 
-off_fault : (o : Option FrameFault) (t : Trail) → connected (hears_fault o t) ≡ connected t
+off_fault : (o : Option FrameFault) (t : Trail) → is_connected (hears_fault o t) ≡ is_connected t
 off_fault None t = refl
 off_fault (Some fault) t = refl
 
-pub off_read : (r : StreamRead) (t : Trail) → connected (part_after r t).trail ≡ connected t
+pub off_read : (r : StreamRead) (t : Trail) → is_connected (part_after r t).trail ≡ is_connected t
 off_read r t = off_fault r.fault (hears r.frames t) ∙ off_hears r.frames t
 
 pub away : (log : Log) (p : ℕ) → Rightly log → AreNumbered log → (tally_of log).dials < p → IsAway (part_of log p) (told_to log p)
@@ -167,7 +167,7 @@ away (NotDialled q name ∷ log) p right numbered lt =
 away (Sent q bytes ∷ log) p right numbered lt =
     let before = away log p right.1 numbered lt in
     let other : q.0 == p ≡ false = elim (cases_Bool (q.0 == p)) [
-      | inl is ↦ absurd (both_ways (connected (trail log p)) before.off (asked_there (trail log p) right.0.0 (subst (λ (k : ℕ). MayAsk (trail log k) right.0.0) (eqb-true q.0 p is) right.0.2.of_its_part)))
+      | inl is ↦ absurd (both_ways (is_connected (trail log p)) before.off (asked_there (trail log p) right.0.0 (subst (λ (k : ℕ). MayAsk (trail log k) right.0.0) (eqb-true q.0 p is) right.0.2.of_its_part)))
       | inr off ↦ off
     ] in
     record {

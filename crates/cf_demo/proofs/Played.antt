@@ -21,7 +21,7 @@ use Rattle.cf_frame.specs.Stream.{StreamRead, read_stream}
 use Rattle.cf_msg.specs.declared.msg.Malformed.{Malformed}
 use Rattle.cf_msg.specs.Reading.{message_of}
 use Rattle.cf_match.specs.declared.job.Job.{Job}
-use Rattle.cf_peer.specs.Trail.{Trail, Part, Lost, trail, part_of, called_part, with_item, item_of, item_of_read, hears, hears_fault, part_after, heard_part, asks, spelled, connected, greeted, has_version, ready}
+use Rattle.cf_peer.specs.Trail.{Trail, Part, Lost, trail, part_of, called_part, with_item, item_of, item_of_read, hears, hears_fault, part_after, heard_part, asks, spelled, is_connected, is_greeted, has_version, ready}
 use Rattle.cf_peer.specs.Asking.{OpenRequest, NothingOpen, HeadersOpen, ClaimsOpen, FiltersOpen, BlockOpen, PingOpen, claims, request, is_idle, is_open, HasSaid}
 use Rattle.cf_server.specs.Serving.{text_of}
 use Rattle.cf_server.proofs.Texts.{text-nil}
@@ -213,7 +213,7 @@ chain_setting log blocks clash good = setting_of first_log 1 blocks less (record
 -- nothing is open to it where it has answered all
 quiet : (blocks : List Block) → Setting blocks → IsGoodChain blocks → (log : Log) (p : ℕ) → NeverOmits blocks log p → Rightly log → AreNumbered log → ((k : ℕ) → HasBegun Honest blocks (drop k log) p)
     → IsHonestOver log p blocks → IsGreetedWhere (trail log p) → HasAnswered Honest blocks log p → is_open (trail log p) ≡ false
-quiet blocks s good log p never right numbered begun honest greets whole = elim (cases_Bool (connected (trail log p))) [
+quiet blocks s good log p never right numbered begun honest greets whole = elim (cases_Bool (is_connected (trail log p))) [
   | inl on ↦ (
       let t : Trail = trail log p in
       let a = agrees log p right numbered (all_fine blocks good log p right begun) in
@@ -226,8 +226,8 @@ quiet blocks s good log p never right numbered begun honest greets whole = elim 
       subst (λ (ns : List Msg). Leaves ms ns k.owed) theirs
       (subst (λ (xs : List Msg). Leaves xs (answers blocks t) k.owed) (ap plain says ∙ plain_replies ms all) k.leaves) in
       let none : k.owed ≡ [] = leaves_one ms k.owed left in
-      all_done blocks (claims t) k.serves.stays.height (request t) (ready t) (has_version t) (greeted t) (connected t) (greets on) (filled log p right)
-      (subst (λ (ns : List Msg). Owes blocks (claims t) (ready t) (has_version t) (greeted t) k.serves.stays.height (request t) ns) none k.serves.owes))
+      all_done blocks (claims t) k.serves.stays.height (request t) (ready t) (has_version t) (is_greeted t) (is_connected t) (greets on) (filled log p right)
+      (subst (λ (ns : List Msg). Owes blocks (claims t) (ready t) (has_version t) (is_greeted t) k.serves.stays.height (request t) ns) none k.serves.owes))
   | inr off ↦ ap (λ (c : Bool). c && (not (ready (trail log p)) || not (is_idle (request (trail log p))))) off
 ]
 

@@ -26,7 +26,7 @@ use Rattle.cf_wires.specs.declared.event.Mark.TheVariants as mark
 use Rattle.cf_peer.specs.declared.mode.Mode.TheVariants.{Once}
 use Rattle.cf_scan.specs.declared.history.Entry.{Entry as HistoryEntry}
 use Rattle.cf_wires.specs.Log.{Log, tally_of}
-use Rattle.cf_peer.specs.Trail.{Trail, Part, Asked, Lost, called_part, with_item, item_of, item_of_read, hears, hears_fault, part_after, heard_part, spelled, asks, part_of, trail, connected, ready, own, is_heard_out}
+use Rattle.cf_peer.specs.Trail.{Trail, Part, Asked, Lost, called_part, with_item, item_of, item_of_read, hears, hears_fault, part_after, heard_part, spelled, asks, part_of, trail, is_connected, ready, own, is_heard_out}
 use Rattle.cf_peer.specs.Asking.{HasHeader, OpenRequest, NothingOpen, HeadersOpen, ClaimsOpen, FiltersOpen, BlockOpen, claims_asked, filters_asked, block_asked, claims, claims_after, request, request_after, is_idle, is_open, hashes_of, MayAsk, PingOpen}
 use Rattle.cf_played.specs.declared.kind.Way.TheVariants.{Silent}
 use Rattle.cf_played.specs.Answers.{came, told_to, is_answered, HasBegun}
@@ -34,7 +34,7 @@ use Rattle.cf_run.specs.Run.{AreNumbered}
 use Rattle.cf_server.specs.Serving.{text_of}
 use Rattle.cf_server.proofs.Lists.{all-append}
 use Rattle.cf_sync.specs.Fetching.{AreBytes, Rightly, IsConnected, counted_part}
-use Rattle.cf_sync.specs.Honesty.{asked, messages_said, IsHonest}
+use Rattle.cf_sync.specs.Honesty.{messages_asked, messages_said, IsHonest}
 use Rattle.cf_sync.specs.Sync.{IsHashed}
 use Rattle.cf_sync.specs.Sync as sync
 use Rattle.cf_sync.proofs.Asks.{claim_there}
@@ -154,7 +154,7 @@ is_stuck (PingOpen number) = true
 
 -- asked something hard, it has that open; it claims nothing
 record IsStuck (t : Trail) : Type 0 where
-  opens : has_hard (asked t) ≡ true → is_stuck (request t) ≡ true
+  opens : has_hard (messages_asked t) ≡ true → is_stuck (request t) ≡ true
   none : claims t ≡ no_claims
 
 soft_stuck : (m : Msg) (r : OpenRequest) → IsSoft m → is_stuck r ≡ true → is_stuck (request_after m r) ≡ true
@@ -220,12 +220,12 @@ filters_open (Some base) start part e = refl
 
 asked_stuck : (t : Trail) (m : Msg) → MayAsk t m → IsStuck t → IsStuck (Asked m ∷ t)
 asked_stuck t (Version version services time to from nonce agent height relay) may h =
-    record { opens = λ hard. h.opens (hard_last (asked t) (Version version services time to from nonce agent height relay) hard refl); none = h.none }
-asked_stuck t Verack may h = record { opens = λ hard. h.opens (hard_last (asked t) Verack hard refl); none = h.none }
-asked_stuck t (Pong n) may h = record { opens = λ hard. h.opens (hard_last (asked t) (Pong n) hard refl); none = h.none }
+    record { opens = λ hard. h.opens (hard_last (messages_asked t) (Version version services time to from nonce agent height relay) hard refl); none = h.none }
+asked_stuck t Verack may h = record { opens = λ hard. h.opens (hard_last (messages_asked t) Verack hard refl); none = h.none }
+asked_stuck t (Pong n) may h = record { opens = λ hard. h.opens (hard_last (messages_asked t) (Pong n) hard refl); none = h.none }
 asked_stuck t (GetHeaders version locator stop) may h =
     record {
-      opens = λ hard. absurd (both_ways (is_stuck (request t)) (ap is_stuck may.0.idle) (h.opens (hard_last (asked t) (GetHeaders version locator stop) hard refl)));
+      opens = λ hard. absurd (both_ways (is_stuck (request t)) (ap is_stuck may.0.idle) (h.opens (hard_last (messages_asked t) (GetHeaders version locator stop) hard refl)));
       none = h.none;
     }
 asked_stuck t (GetData entries) may h = record { opens = λ hard. subst (λ (es : List Inventory). is_stuck (block_asked es (request t)) ≡ true) (sym may.1.1) refl; none = h.none }
@@ -349,7 +349,7 @@ silent_idle log p blocks bytes good clash right numbered greets some few plays o
     let fine = few_fine blocks good log p right plays.past in
     let a = agrees log p right numbered fine in
     let st = stuck log p right (all_soft blocks good log p right numbered plays.past) in
-    let free : is_stuck (request t) ≡ false = idle_free (connected t) (ready t) (request t) on quiet in
+    let free : is_stuck (request t) ≡ false = idle_free (is_connected t) (ready t) (request t) on quiet in
     let soft : has_hard (told_to log p) ≡ false = is_false (has_hard (told_to log p)) (λ hard. both_ways (is_stuck (request t)) free (st.opens (ap has_hard a.asks_these ∙ hard))) in
     let honest = honest_peer log p blocks bytes good clash right numbered greets some few (plays_honest blocks log p right soft plays) in
     let clean = (honest_good blocks (chain_setting log blocks clash good) log p (never_omits log p blocks bytes clash good.each) right honest.honest).keeps.clean in

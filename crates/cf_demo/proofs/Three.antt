@@ -14,7 +14,7 @@ use Rattle.cf_wires.specs.declared.event.Delivery.TheVariants.{Got, Gone, Tick, 
 use Rattle.cf_wires.specs.declared.event.Event.TheVariants.{Dialled, NotDialled, Sent, SendFailed, Closed, Took}
 use Rattle.cf_wires.specs.declared.event.Mark.TheVariants as mark
 use Rattle.cf_wires.specs.Log.{Log}
-use Rattle.cf_peer.specs.Trail.{Part, Lost, called_part, with_item, heard_part, spelled, asks, part_of, trail, connected, own}
+use Rattle.cf_peer.specs.Trail.{Part, Lost, called_part, with_item, heard_part, spelled, asks, part_of, trail, is_connected, own}
 use Rattle.cf_peer.specs.Asking.{lists, MayAsk}
 use Rattle.cf_played.specs.declared.kind.Way.TheVariants.{Honest, Omits}
 use Rattle.cf_played.specs.Answers.{told_to, AreAlike}
@@ -40,9 +40,9 @@ use Rattle.cf_demo.proofs.Silent.{silent_apart}
 -- ---- who is connected was dialled
 
 abbrev IsOff : Part → Type 0
-IsOff part = connected part.trail ≡ false
+IsOff part = is_connected part.trail ≡ false
 
-zero_off : (log : Log) → Rightly log → AreNumbered log → connected (trail log 0) ≡ false
+zero_off : (log : Log) → Rightly log → AreNumbered log → is_connected (trail log 0) ≡ false
 zero_off [] right numbered = refl
 zero_off (Dialled q name ∷ log) right numbered =
     at_either IsOff (q.0 == 0) (called_part (part_of log 0)) (part_of log 0)
@@ -51,7 +51,7 @@ zero_off (NotDialled q name ∷ log) right numbered = at_either IsOff (q.0 == 0)
 zero_off (Sent q bytes ∷ log) right numbered =
     let before = zero_off log right.1 numbered in
     at_either IsOff (q.0 == 0) (record (part_of log 0) { trail = asks (spelled bytes) (trail log 0) }) (part_of log 0)
-    (λ is. absurd (both_ways (connected (trail log 0)) before (asked_there (trail log 0) right.0.0 (subst (λ (k : ℕ). MayAsk (trail log k) right.0.0) (eqb-true q.0 0 is) right.0.2.of_its_part)))) (λ off. before)
+    (λ is. absurd (both_ways (is_connected (trail log 0)) before (asked_there (trail log 0) right.0.0 (subst (λ (k : ℕ). MayAsk (trail log k) right.0.0) (eqb-true q.0 0 is) right.0.2.of_its_part)))) (λ off. before)
 zero_off (SendFailed q ∷ log) right numbered = at_either IsOff (q.0 == 0) (with_item (Lost mark.SendFailed) (part_of log 0)) (part_of log 0) (λ is. refl) (λ off. zero_off log right numbered)
 zero_off (Closed q ∷ log) right numbered = at_either IsOff (q.0 == 0) (with_item (Lost mark.Closed) (part_of log 0)) (part_of log 0) (λ is. refl) (λ off. zero_off log right.1 numbered)
 zero_off (Took (Got q piece) ∷ log) right numbered =
@@ -113,12 +113,12 @@ third_part chain longer log s other shows = shows_part Honest chain s.setting lo
 beyond : (chain longer : List Block) (log : Log) (k : ℕ) → Scene chain longer log → IsConnected log (suc (suc (suc (suc k)))) → ⊥
 beyond chain longer log k s on =
     let d = s.three.dials in
-    both_ways (connected (trail log (suc (suc (suc (suc k)))))) (away log (suc (suc (suc (suc k)))) s.right s.numbered (omega (arith, d))).off on
+    both_ways (is_connected (trail log (suc (suc (suc (suc k)))))) (away log (suc (suc (suc (suc k)))) s.right s.numbered (omega (arith, d))).off on
 
 -- the best chain can't be shown by anybody, if the second is there
 nobody_best : (chain longer : List Block) (log : Log) → Scene chain longer log → (best : Chain) → length longer ≤ length best → own (counted_part log 2) ≡ headers_of longer → (best ≡ headers_of longer → ⊥)
     → (p : ℕ) → IsConnected log p → own (counted_part log p) ≡ best → ⊥
-nobody_best chain longer log s best long mine apart zero on is = both_ways (connected (trail log 0)) (zero_off log s.right s.numbered) on
+nobody_best chain longer log s best long mine apart zero on is = both_ways (is_connected (trail log 0)) (zero_off log s.right s.numbered) on
 nobody_best chain longer log s best long mine apart (suc zero) on is =
     let few = short chain (own (counted_part log 1)) (first_part chain longer log s (own (counted_part log 1)) (own_shown (trail log 1))) in
     let n = ap (λ (x : Chain). length x) is in
@@ -143,7 +143,7 @@ second_off watch height hash entries chain longer log s f greets quiet on =
     let most = f.told.best.longest 2 on in
     elim f.told.best.shown [
       | inl by ↦ nobody_best chain longer log s f.told.chain (omega (arith, n, all, most)) apart.0 apart.1 by.0 by.1.0 by.1.1
-      | inr none ↦ both_ways (connected (trail log 2)) (none.0 2) on
+      | inr none ↦ both_ways (is_connected (trail log 2)) (none.0 2) on
     ]
 
 pub no_other : (watch : List (List ℕ)) (height : ℕ) (hash : Hash32) (entries : List Entry) (chain longer : List Block) (log : Log) → AreTwoChains chain longer log → AreThree chain longer log
@@ -160,7 +160,7 @@ no_other watch height hash entries chain longer log chains three first f numbere
     } in
     by_number s where
       by_number : Scene chain longer log → ShowsNoOther log chain
-      by_number s zero other on shows long = absurd (both_ways (connected (trail log 0)) (zero_off log s.right s.numbered) on)
+      by_number s zero other on shows long = absurd (both_ways (is_connected (trail log 0)) (zero_off log s.right s.numbered) on)
       by_number s (suc zero) other on shows long = whole chain other (first_part chain longer log s other shows) long
       by_number s (suc (suc zero)) other on shows long = absurd (second_off watch height hash entries chain longer log s f greets quiet on)
       by_number s (suc (suc (suc zero))) other on shows long = whole chain other (third_part chain longer log s other shows) long

@@ -28,7 +28,7 @@ use Rattle.cf_wires.specs.declared.event.Event.{Event}
 use Rattle.cf_wires.specs.declared.event.Event.TheVariants.{Dialled, NotDialled, Sent, SendFailed, Closed, Took}
 use Rattle.cf_wires.specs.Log.{Log, tally_of}
 use Rattle.cf_peer.specs.Trail.{spelled}
-use Rattle.cf_played.specs.declared.kind.Kind.TheVariants.{Honest as HonestKind}
+use Rattle.cf_played.specs.declared.kind.Manner.TheVariants.{Honest as HonestKind}
 use Rattle.cf_played.specs.declared.kind.Way.{Way}
 use Rattle.cf_played.specs.declared.kind.Way.TheVariants.{Honest, Omits, Silent}
 use Rattle.cf_played.specs.Peers.{Peer, still}

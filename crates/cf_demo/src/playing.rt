@@ -15,7 +15,7 @@ use cf_bytes::{Listed, NoMemory, Refused};
 use cf_headers::Tree;
 use cf_make::{Chain, chain, script};
 use cf_match::Matcher;
-use cf_played::{Kind, Played};
+use cf_played::{Manner, Played};
 use cf_run::Outcome;
 use cf_scan::Watch;
 use cf_wires::Wires;
@@ -43,7 +43,7 @@ fn make(alloc: Global, seed: u64, blocks: u32) -> Result<Chain, Unplayed>
 fn add(
     rt: &(impl Threads + Sync),
     chain: &Chain,
-    kind: Kind,
+    kind: Manner,
     played: &mut Played,
 ) -> Result<(), Unplayed>
     requires new { log_of played.old ≡ [] }
@@ -77,9 +77,9 @@ fn add_three(
     ensures finished { finished_of played.new ≡ finished_of played.old }
     ensures keeps { keeps_of played.new ≡ keeps_of played.old }
 {
-    add(rt, chain, Kind::Omits(scripts), played)?;
-    add(rt, longer, Kind::Silent, played)?;
-    add(rt, chain, Kind::Honest, played)
+    add(rt, chain, Manner::Omits(scripts), played)?;
+    add(rt, longer, Manner::Silent, played)?;
+    add(rt, chain, Manner::Honest, played)
 }
 
 // The scripts that are watched.
@@ -218,7 +218,7 @@ fn prepare_session(
 {
     let chain = make(alloc, u64::from(seed), blocks)?;
     let watch = watch(alloc, scripts(alloc)?.as_slice())?;
-    add(rt, &chain, Kind::Honest, played)?;
+    add(rt, &chain, Manner::Honest, played)?;
     Ok(watch)
 }
 

@@ -5,7 +5,7 @@ use Rattle.std.specs.List.{flat_map, AllByRecursion}
 use Rattle.std.proofs.lemmas.List.{append-nil, map-append, take_more}
 use Rattle.std.proofs.lemmas.List.Concat.{flat_map-append}
 use Rattle.cf_block.specs.declared.tx.Block.{Block}
-use Rattle.cf_chain.specs.Grow.{announcement, asked_for, is_unknown, unknown_entry, wanted}
+use Rattle.cf_chain.specs.Grow.{announcement, asked_for, is_unknown, unknown_entry, wanted_entries}
 use Rattle.cf_bytes.specs.declared.hash.Hash32.{Hash32}
 use Rattle.cf_frame.specs.Frame.{spelling}
 use Rattle.cf_grow.specs.declared.held.Held.{Held}
@@ -108,13 +108,13 @@ none_few : (wants : List Inventory) → wants ≡ [] → length wants ≤ 50000
 none_few wants e = omega (arith, ap length e)
 
 pub wants_few : (blocks : List Block) (met : Bool) (m : Msg) (wants : List Inventory) → HasSpelling m
-    → wants ≡ wanted blocks met m → length wants ≤ 50000
+    → wants ≡ wanted_entries blocks met m → length wants ≤ 50000
 wants_few blocks true (Inv entries) wants fits is = omega (arith, ap length is, unknown_few blocks entries, fits.0)
 wants_few blocks true m wants fits is = none_few wants is
 wants_few blocks false m wants fits is = none_few wants is
 
 pub wants_fit : (blocks : List Block) (met : Bool) (m : Msg) (wants : List Inventory) → HasSpelling m
-    → wants ≡ wanted blocks met m → AllByRecursion IsEntry wants
+    → wants ≡ wanted_entries blocks met m → AllByRecursion IsEntry wants
 wants_fit blocks true (Inv entries) wants fits is = subst (AllByRecursion IsEntry) (sym is) (unknown_fit blocks entries fits.1)
 wants_fit blocks true m wants fits is = subst (AllByRecursion IsEntry) (sym is) tt
 wants_fit blocks false m wants fits is = subst (AllByRecursion IsEntry) (sym is) tt

@@ -5,7 +5,7 @@ use Rattle.std.proofs.lemmas.Bool.{false≢true}
 use Rattle.cf_bytes.specs.declared.hash.Hash32.{Hash32}
 use Rattle.cf_block.specs.declared.tx.Block.{Block}
 use Rattle.cf_block.specs.Header.{block_hash_of}
-use Rattle.cf_chain.specs.Grow.{Mark as Told, NotMet, Told as IsTold, mark_at, is_met, announcement, asked_for, wanted, answered, top_hash, told_first, marked, grow_answer}
+use Rattle.cf_chain.specs.Grow.{Mark as Told, NotMet, Told as IsTold, mark_at, is_met, announcement, asked_for, wanted_entries, growing_answers, top_hash, told_first, marked, grow_answer}
 use Rattle.cf_chain.specs.Heights.{all_blocks}
 use Rattle.cf_chain.specs.Serve.{is_version, replies_to}
 use Rattle.cf_chain.proofs.Tops.{top_at}
@@ -112,7 +112,7 @@ mark_moved blocks seen now height hash m e = ap (λ (b : Bool). moved blocks (to
 -- the answer
 pub answer_is : (served : Serving) (blocks : List Block) (height : ℕ) (hash : Hash32) (m : Msg) (a : Answer)
     → news_in a.news ≡ told_first blocks (told_by served.seen height hash)
-    → a.wants ≡ wanted blocks served.seen m
+    → a.wants ≡ wanted_entries blocks served.seen m
     → Adds served blocks [] a.plain (replies_to served.time served.nonce blocks served.seen m)
     → IsAnswerOf served blocks a (grow_answer served.time served.nonce blocks (told_by served.seen height hash) m).replies
 answer_is served blocks height hash m a news wants adds =
@@ -121,8 +121,8 @@ answer_is served blocks height hash m a news wants adds =
       told =
           ap (λ (ms : List Msg). ms ++ (asked_for a.wants ++ messages_of served blocks a.plain)) news
           ∙ ap (λ es. told_first blocks (told_by served.seen height hash) ++ (asked_for es ++ messages_of served blocks a.plain)) wants
-          ∙ ap (λ (ms : List Msg). told_first blocks (told_by served.seen height hash) ++ (asked_for (wanted blocks served.seen m) ++ ms)) (ap (λ (rs : List Reply). messages_of served blocks rs) same ∙ adds.told)
-          ∙ ap (λ (b : Bool). told_first blocks (told_by served.seen height hash) ++ answered served.time served.nonce blocks b m) (sym (met_is served.seen height hash));
+          ∙ ap (λ (ms : List Msg). told_first blocks (told_by served.seen height hash) ++ (asked_for (wanted_entries blocks served.seen m) ++ ms)) (ap (λ (rs : List Reply). messages_of served blocks rs) same ∙ adds.told)
+          ∙ ap (λ (b : Bool). told_first blocks (told_by served.seen height hash) ++ growing_answers served.time served.nonce blocks b m) (sym (met_is served.seen height hash));
       each = subst (λ (rs : List Reply). AreRepliesOf blocks rs) (sym same) adds.each;
     }
 

@@ -1,7 +1,7 @@
 //! The answer to a message, by the chain as it stands.
 ghost use Rattle.std.specs.Prelude.{◌≡◌, ◌++◌, IfOk, OnOk, OnErr, true, false};
 ghost use Rattle.std.specs.List.{flat_map};
-ghost use Rattle.cf_chain.specs.{is_unknown, told_first, top_hash, unknown_entry, wanted};
+ghost use Rattle.cf_chain.specs.{is_unknown, told_first, top_hash, unknown_entry, wanted_entries};
 ghost use Rattle.cf_grow.specs.Growing.{HasMark, HasMomentOf, IsAnswerOf, Refuses, answer_at, mark_of, moved, news_in};
 
 use crate::mark::{Mark, Shrunk, TakeFail};
@@ -87,7 +87,7 @@ fn find_news(index: &Index, entries: &[Inventory], out: &mut Entries) -> Result<
 
 // What is asked for by an inventory, once a version has come.
 fn wants_of(alloc: Global, index: &Index, seen: bool, msg: &Msg) -> Result<Entries, NoMemory>
-    ensures { IfOk result (λ wants. wants ≡ wanted index.now seen msg.now) }
+    ensures { IfOk result (λ wants. wants ≡ wanted_entries index.now seen msg.now) }
 {
     let mut wants = Entries::new(alloc);
     if !seen {
@@ -140,7 +140,7 @@ pub(crate) fn take_at(
     ensures has { OnOk result (HasMark index.now mark.old) }
     ensures answer { IfOk result
         (λ a. IsAnswerOf mark.old.served index.now a (answer_at mark.old index.now msg.now).replies) }
-    ensures wants { IfOk result (λ a. a.wants ≡ wanted index.now mark.old.served.seen msg.now) }
+    ensures wants { IfOk result (λ a. a.wants ≡ wanted_entries index.now mark.old.served.seen msg.now) }
     ensures mark { OnOk result (mark_of mark.new ≡ (answer_at mark.old index.now msg.now).mark) }
     ensures moment { HasMomentOf mark.old mark.new }
     ensures refused { Refuses index.now mark.old result }

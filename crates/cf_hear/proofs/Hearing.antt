@@ -30,8 +30,8 @@ use Rattle.cf_peer.specs.declared.peer.Peer.{Peer}
 use Rattle.cf_peer.specs.declared.peer.Reaction.{Reaction}
 use Rattle.cf_peer.specs.declared.peer.Reaction.TheVariants.{Nothing as NoReply, Send, Close, Expose}
 use Rattle.cf_peer.specs.Acts.{IsSendable, IsDoable}
-use Rattle.cf_peer.specs.Trail.{Trail, Part, Said, part_after, heard_part, fault_in, first, longer_of, ready, has_version, connected, own, replies_owed, is_unknown}
-use Rattle.cf_peer.specs.Asking.{OpenRequest, NothingOpen, request, claims, claims_after, counted, fault_of, fetched, fetched_by, given, given_by, verdict}
+use Rattle.cf_peer.specs.Trail.{Trail, Part, Said, part_after, heard_part, fault_in, first, longer_of, ready, has_version, is_connected, own, replies_owed, is_unknown}
+use Rattle.cf_peer.specs.Asking.{OpenRequest, NothingOpen, request, claims, claims_after, counted, fault_of, fetched_blocks, fetched_by, given_filters, given_by, verdict}
 use Rattle.cf_peer.specs.Hearing.{IsReply, Faulty}
 use Rattle.cf_peer.specs.Peer.{Holds, IsRight, TakesClaims, awaits, cause_of_claims, Hears, is_plain, is_ready_peer}
 use Rattle.cf_peer.proofs.Peers.{other_block, reply_is, same_holds, early_headers, early_own, plain_said}
@@ -508,14 +508,14 @@ met_after m rs t (inr is) = inr (said_met m t is)
 -- the blocks that a message brought, and those before it
 brings_said : (peer : Peer) (m : Msg) (start t : Trail) (news : List Block) → Holds peer (Said m ∷ t) → Brings start t news → Brings start (Said m ∷ t) (fetched_by m (request t) ++ news)
 brings_said peer m start t news h is =
-    said_brings m t h.on h.clean ∙ ap (λ (bs : List Block). fetched_by m (request t) ++ bs) is ∙ sym (append_assoc (fetched_by m (request t)) news (fetched (counted start)))
+    said_brings m t h.on h.clean ∙ ap (λ (bs : List Block). fetched_by m (request t) ++ bs) is ∙ sym (append_assoc (fetched_by m (request t)) news (fetched_blocks (counted start)))
 
 -- the filters that a message gave, and those before it
 gives_said : (peer : Peer) (m : Msg) (start t : Trail) (news : List Block) (jobs : List Job) → Holds peer (Said m ∷ t) → ((news ≡ []) × (jobs ≡ [])) ⊎ (request t ≡ NothingOpen)
     → Gives start t jobs → Gives start (Said m ∷ t) (jobs ++ given_by m (request t))
 gives_said peer m start t news jobs h idle is =
     said_gives m t h.on h.clean ∙ ap (λ (js : List Job). given_by m (request t) ++ js) is
-    ∙ gives_on (given_by m (request t)) jobs (given (counted start))
+    ∙ gives_on (given_by m (request t)) jobs (given_filters (counted start))
     (one_empty news (fetched_by m (request t)) jobs (given_by m (request t)) (once_by m (request t) news jobs idle))
 
 -- nothing of the piece was taken yet
@@ -591,7 +591,7 @@ met_end rs t end known (inl none) = inl none
 met_end rs t end known (inr is) = inr (known is)
 
 -- where nobody is exposed the peer claims no filter that was found to lack something
-spared_by : (now next : Seen) (p : ℕ) (t end : Trail) (block : Hash) (claim : Claim) → connected t ≡ true → verdict t ≡ None → counted end ≡ counted t → Follows now p t
+spared_by : (now next : Seen) (p : ℕ) (t end : Trail) (block : Hash) (claim : Claim) → is_connected t ≡ true → verdict t ≡ None → counted end ≡ counted t → Follows now p t
     → IsSameSeen now next → IsUnexposed next → claims (counted end) block ≡ Some claim → next.trials.told block claim.hash.0 ≡ Some true → ⊥
 spared_by now next p t end block claim on clean counts f same none mine found = none p block claim.hash.0 (record {
   claimed = record {

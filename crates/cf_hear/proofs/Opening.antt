@@ -16,7 +16,7 @@ use Rattle.cf_msg.specs.declared.msg.Msg.TheVariants.{Pong, Headers, Inv, Block 
 use Rattle.cf_peer.specs.declared.peer.Peer.{Peer}
 use Rattle.cf_peer.specs.declared.peer.Request.TheVariants.{Handshake}
 use Rattle.cf_wires.specs.Log.{Log}
-use Rattle.cf_peer.specs.Trail.{Trail, Said, Asked, connected, ready, trail}
+use Rattle.cf_peer.specs.Trail.{Trail, Said, Asked, is_connected, ready, trail}
 use Rattle.cf_peer.specs.Asking.{OpenRequest, NothingOpen, HeadersOpen, ClaimsOpen, FiltersOpen, BlockOpen, PingOpen, age, filter_of, given_by, is_answer_of, is_wanted, request, request_after}
 use Rattle.cf_peer.specs.Peer.{Holds, aged, awaits, is_block_of, is_idle_peer, is_nothing, is_plain}
 use Rattle.cf_peer.proofs.Peers.{awaits_is, idle_request}
@@ -65,10 +65,10 @@ closed_on before after p same closed = record {
 }
 
 -- nothing is open to who isn't connected
-pub closes_off : (opens : Opens) (p : ℕ) (t : Trail) → OpensAt opens p t → connected t ≡ false → Closes opens opens p
+pub closes_off : (opens : Opens) (p : ℕ) (t : Trail) → OpensAt opens p t → is_connected t ≡ false → Closes opens opens p
 closes_off opens p t at off = record {
-  filters = λ block. false_from_ne_true (opens.filters p block) (λ is. both_ways (connected t) off (at.filters block is).0);
-  blocks = λ block. false_from_ne_true (opens.blocks p block) (λ is. both_ways (connected t) off (at.blocks block is).0);
+  filters = λ block. false_from_ne_true (opens.filters p block) (λ is. both_ways (is_connected t) off (at.filters block is).0);
+  blocks = λ block. false_from_ne_true (opens.blocks p block) (λ is. both_ways (is_connected t) off (at.blocks block is).0);
   others = else_self opens p;
 }
 
@@ -110,8 +110,8 @@ in_among block (x ∷ xs) e = elim (cases_Bool (same block x)) [
 
 abbrev pub opens_by : Log → Opens
 opens_by log = record {
-  filters = λ q block. connected (trail log q) && among block (filters_open (request (trail log q)));
-  blocks = λ q block. connected (trail log q) && among block (blocks_open (request (trail log q)));
+  filters = λ q block. is_connected (trail log q) && among block (filters_open (request (trail log q)));
+  blocks = λ q block. is_connected (trail log q) && among block (blocks_open (request (trail log q)));
 }
 
 both_true : (a b : Bool) → a ≡ true → b ≡ true → (a && b) ≡ true
@@ -120,10 +120,10 @@ both_true false b is also = absurd (false≢true is)
 
 pub holds_by : (log : Log) → HoldsOpens log (opens_by log)
 holds_by log q = record {
-  filters = λ block is. (let w = and_parts (connected (trail log q)) (among block (filters_open (request (trail log q)))) is in (w.0, in_among block _ w.1));
-  all_filters = λ block on i. both_true (connected (trail log q)) _ on (is_among block (filters_open (request (trail log q))) i);
-  blocks = λ block is. (let w = and_parts (connected (trail log q)) (among block (blocks_open (request (trail log q)))) is in (w.0, in_among block _ w.1));
-  all_blocks = λ block on i. both_true (connected (trail log q)) _ on (is_among block (blocks_open (request (trail log q))) i);
+  filters = λ block is. (let w = and_parts (is_connected (trail log q)) (among block (filters_open (request (trail log q)))) is in (w.0, in_among block _ w.1));
+  all_filters = λ block on i. both_true (is_connected (trail log q)) _ on (is_among block (filters_open (request (trail log q))) i);
+  blocks = λ block is. (let w = and_parts (is_connected (trail log q)) (among block (blocks_open (request (trail log q)))) is in (w.0, in_among block _ w.1));
+  all_blocks = λ block on i. both_true (is_connected (trail log q)) _ on (is_among block (blocks_open (request (trail log q))) i);
 }
 
 -- nobody was dialled yet
@@ -156,7 +156,7 @@ opens_asked opens p m t filters blocks at =
     (λ block i. subst (λ (xs : List Hash). IsIn block xs) blocks i) (λ block i. subst (λ (xs : List Hash). IsIn block xs) (sym blocks) i)
 
 -- the same stands in what is open
-pub opens_kept : (opens : Opens) (p : ℕ) (t u : Trail) → connected u ≡ connected t → request u ≡ request t → OpensAt opens p t → OpensAt opens p u
+pub opens_kept : (opens : Opens) (p : ℕ) (t u : Trail) → is_connected u ≡ is_connected t → request u ≡ request t → OpensAt opens p t → OpensAt opens p u
 opens_kept opens p t u on e at =
     opens_same opens p t u at on
     (λ block i. subst (λ (r : OpenRequest). IsIn block (filters_open r)) e i) (λ block i. subst (λ (r : OpenRequest). IsIn block (filters_open r)) (sym e) i)

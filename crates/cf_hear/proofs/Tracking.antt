@@ -17,8 +17,8 @@ use Rattle.cf_wires.specs.declared.event.Delivery.TheVariants.{Got, Gone, Tick, 
 use Rattle.cf_wires.specs.declared.event.Event.TheVariants.{Dialled, NotDialled, Sent, Closed, Took}
 use Rattle.cf_wires.specs.declared.event.Mark.TheVariants as mark
 use Rattle.cf_wires.specs.Log.{Log}
-use Rattle.cf_peer.specs.Trail.{Trail, Part, Asked, Lost, part_of, trail, went_on, asks, spelled, with_item, called_part, heard_part, connected, own}
-use Rattle.cf_peer.specs.Asking.{NothingOpen, claims, counted, request, fetched, given, SameUse}
+use Rattle.cf_peer.specs.Trail.{Trail, Part, Asked, Lost, part_of, trail, went_on, asks, spelled, with_item, called_part, heard_part, is_connected, own}
+use Rattle.cf_peer.specs.Asking.{NothingOpen, claims, counted, request, fetched_blocks, given_filters, SameUse}
 use Rattle.cf_sync.specs.Fetching.{IsConnected, IsFetched, blocks_open, filters_open}
 use Rattle.cf_holds.specs.Known.{HoldsFetched, HoldsClaims, HoldsGiven, HoldsOpens, OpensAt, claims_kept}
 use Rattle.cf_holds.specs.Kept.{AimsAt, HoldsTrials}
@@ -44,11 +44,11 @@ use Rattle.cf_hear.proofs.Opening.{closed_on, closes_off, closes_then, else_by, 
 
 -- ---- what is kept of fetched blocks, where two logs tell of the same
 
-pub same_fetched : (log next : Log) → ((p : ℕ) → fetched (counted (trail next p)) ≡ fetched (counted (trail log p))) → (b : Block) → IsFetched log b → IsFetched next b
+pub same_fetched : (log next : Log) → ((p : ℕ) → fetched_blocks (counted (trail next p)) ≡ fetched_blocks (counted (trail log p))) → (b : Block) → IsFetched log b → IsFetched next b
 same_fetched log next same b got = (got.0, subst (λ (bs : List Block). IsIn b bs) (sym (same got.0)) got.1)
 
 pub holds_on : (watch now : List (List ℕ)) (log next : Log) (table new : ExtractTable) → now ≡ watch → IsSameTable new table
-    → ((p : ℕ) → fetched (counted (trail next p)) ≡ fetched (counted (trail log p))) → HoldsFetched watch log table → HoldsFetched now next new
+    → ((p : ℕ) → fetched_blocks (counted (trail next p)) ≡ fetched_blocks (counted (trail log p))) → HoldsFetched watch log table → HoldsFetched now next new
 holds_on watch now log next table new same_watch same_table same h = subst (λ (w : List (List ℕ)). HoldsFetched w next new) (sym same_watch) (record {
   sound = λ hash e is. (let w = h.sound hash e (sym (same_table hash) ∙ is) in (w.0, same_fetched log next same w.0 w.1, w.2, w.3));
   complete = λ hash off got. h.complete hash (sym (same_table hash) ∙ off) (got.0, same_fetched next log (λ p. sym (same p)) got.0 got.1, got.2);
@@ -62,7 +62,7 @@ same_gave log = λ job. (λ gave. gave, λ gave. gave)
 
 -- of each peer the same blocks, and the same filters
 pub record IsSameBrought (log next : Log) : Type 0 where
-  pub blocks : (q : ℕ) → fetched (counted (trail next q)) ≡ fetched (counted (trail log q))
+  pub blocks : (q : ℕ) → fetched_blocks (counted (trail next q)) ≡ fetched_blocks (counted (trail log q))
   pub filters : IsSameGiven log next
 
 pub tracks_on : (before after : Seen) (log next : Log) → after.watch ≡ before.watch → IsSameTable after.table before.table → AreSameVerdicts after.verdicts before.verdicts
@@ -85,7 +85,7 @@ tracks_same s log next chains claims opened same trials tracks =
 
 -- p's chain and claims become these, and no others; and nothing is open to it
 pub tracks_put : (before after : Seen) (p : ℕ) (own : Option Chain) (table : dispute.Table) (log next : Log) → IsPut before after p own table → own ≡ chain_kept (trail next p) → table ≡ claims_kept (trail next p)
-    → (connected (trail next p) ≡ true → request (trail next p) ≡ NothingOpen)
+    → (is_connected (trail next p) ≡ true → request (trail next p) ≡ NothingOpen)
     → ((q : ℕ) → q ≢ p → part_of next q ≡ part_of log q) → IsSameBrought log next → HoldsTrials next before.trials → Tracks before log → Tracks after next
 tracks_put before after p own table log next put here claims idle others same trials tracks =
     tracks_on before after log next put.watch put.table put.verdicts
@@ -134,22 +134,22 @@ put_entered before last p puts table claims verdicts watch none opens idle trial
 
 -- ---- the entries
 
-brought_at : (log next : Log) (p : ℕ) → ((q : ℕ) → q ≢ p → part_of next q ≡ part_of log q) → fetched (counted (trail next p)) ≡ fetched (counted (trail log p)) → IsSameGiven log next → IsSameBrought log next
+brought_at : (log next : Log) (p : ℕ) → ((q : ℕ) → q ≢ p → part_of next q ≡ part_of log q) → fetched_blocks (counted (trail next p)) ≡ fetched_blocks (counted (trail log p)) → IsSameGiven log next → IsSameBrought log next
 brought_at log next p others blocks filters = record {
   blocks = λ q. elim (cases_eq q p) [
-    | inl is ↦ subst (λ (k : ℕ). fetched (counted (trail next k)) ≡ fetched (counted (trail log k))) (sym is) blocks
-    | inr other ↦ ap (λ (x : Part). fetched (counted x.trail)) (others q other)
+    | inl is ↦ subst (λ (k : ℕ). fetched_blocks (counted (trail next k)) ≡ fetched_blocks (counted (trail log k))) (sym is) blocks
+    | inr other ↦ ap (λ (x : Part). fetched_blocks (counted x.trail)) (others q other)
   ];
   filters = filters;
 }
 
 -- p is lost, in whatever way, and nothing else
-pub tracks_lost : (before after : Seen) (p : PeerNo) (log next : Log) → IsPut before after p.0 None no_claims → connected (trail next p.0) ≡ false → ((q : ℕ) → q ≢ p.0 → part_of next q ≡ part_of log q)
-    → fetched (counted (trail next p.0)) ≡ fetched (counted (trail log p.0)) → IsSameGiven log next → HoldsTrials next before.trials → Tracks before log → Tracks after next
+pub tracks_lost : (before after : Seen) (p : PeerNo) (log next : Log) → IsPut before after p.0 None no_claims → is_connected (trail next p.0) ≡ false → ((q : ℕ) → q ≢ p.0 → part_of next q ≡ part_of log q)
+    → fetched_blocks (counted (trail next p.0)) ≡ fetched_blocks (counted (trail log p.0)) → IsSameGiven log next → HoldsTrials next before.trials → Tracks before log → Tracks after next
 tracks_lost before after p log next put off others blocks filters trials tracks =
     tracks_put before after p.0 None no_claims log next put
     (sym (ap (λ (b : Bool). if b then Some (own (trail next p.0)) else None) off)) (sym (ap (λ (b : Bool). if b then claims (counted (trail next p.0)) else no_claims) off))
-    (λ on. absurd (both_ways (connected (trail next p.0)) off on)) others (brought_at log next p.0 others blocks filters) trials tracks
+    (λ on. absurd (both_ways (is_connected (trail next p.0)) off on)) others (brought_at log next p.0 others blocks filters) trials tracks
 
 closed_here : (p : PeerNo) (part : Part) → went_on (Closed p) p.0 part ≡ with_item (Lost mark.Closed) part
 closed_here p part = grind (arith, common_steps)
@@ -160,8 +160,8 @@ closed_others p q part ne = grind (arith, common_steps)
 pub tracks_closed : (before after : Seen) (p : PeerNo) (log : Log) → IsPut before after p.0 None no_claims → Tracks before log → Tracks after (Closed p ∷ log)
 tracks_closed before after p log put tracks =
     let here = closed_here p (part_of log p.0) in
-    tracks_lost before after p log (Closed p ∷ log) put (ap (λ (x : Part). connected x.trail) here) (λ q other. closed_others p q (part_of log q) other)
-    (ap (λ (x : Part). fetched (counted x.trail)) here) (same_gave log) (trials_stay (Closed p) log before.trials tt tt tracks.trials) tracks
+    tracks_lost before after p log (Closed p ∷ log) put (ap (λ (x : Part). is_connected x.trail) here) (λ q other. closed_others p q (part_of log q) other)
+    (ap (λ (x : Part). fetched_blocks (counted x.trail)) here) (same_gave log) (trials_stay (Closed p) log before.trials tt tt tracks.trials) tracks
 
 gone_here : (p : PeerNo) (part : Part) → went_on (Took (Gone p)) p.0 part ≡ with_item (Lost mark.Gone) part
 gone_here p part = grind (arith, common_steps)
@@ -172,8 +172,8 @@ gone_others p q part ne = grind (arith, common_steps)
 pub tracks_gone : (before after : Seen) (p : PeerNo) (log : Log) → IsPut before after p.0 None no_claims → Tracks before log → Tracks after (Took (Gone p) ∷ log)
 tracks_gone before after p log put tracks =
     let here = gone_here p (part_of log p.0) in
-    tracks_lost before after p log (Took (Gone p) ∷ log) put (ap (λ (x : Part). connected x.trail) here) (λ q other. gone_others p q (part_of log q) other)
-    (ap (λ (x : Part). fetched (counted x.trail)) here) (same_gave log) (trials_stay (Took (Gone p)) log before.trials tt tt tracks.trials) tracks
+    tracks_lost before after p log (Took (Gone p) ∷ log) put (ap (λ (x : Part). is_connected x.trail) here) (λ q other. gone_others p q (part_of log q) other)
+    (ap (λ (x : Part). fetched_blocks (counted x.trail)) here) (same_gave log) (trials_stay (Took (Gone p)) log before.trials tt tt tracks.trials) tracks
 
 called_here : (p : PeerNo) (name : List ℕ) (part : Part) → went_on (Dialled p name) p.0 part ≡ called_part part
 called_here p name part = grind (arith, common_steps)
@@ -187,7 +187,7 @@ tracks_dialled before after p name log put tracks =
     let next = Dialled p name ∷ log in
     tracks_put before after p.0 (Some []) no_claims log next put (sym (ap (λ (x : Part). chain_kept x.trail) here)) (sym (ap (λ (x : Part). claims_kept x.trail) here))
     (λ on. ap (λ (x : Part). request x.trail) here) (λ q other. called_others p name q (part_of log q) other)
-    (brought_at log next p.0 (λ q other. called_others p name q (part_of log q) other) (ap (λ (x : Part). fetched (counted x.trail)) here) (same_gave log))
+    (brought_at log next p.0 (λ q other. called_others p name q (part_of log q) other) (ap (λ (x : Part). fetched_blocks (counted x.trail)) here) (same_gave log))
     (trials_stay (Dialled p name) log before.trials tt tt tracks.trials) tracks
 
 -- what is sent changes nothing that is kept
@@ -218,7 +218,7 @@ tracks_asked before after p bytes log same at aim tracks =
     (opens_put log next before.opens after.opens p.0 tracks.opened same.opens (λ q ne. ap (λ (x : Part). x.trail) (sent_others p bytes q (part_of log q) ne))
     (subst (OpensAt after.opens p.0) (sym (ap (λ (x : Part). x.trail) (sent_here p bytes (part_of log p.0)))) at))
     (record {
-      blocks = λ q. sent_same (List Block) (λ t. fetched (counted t)) p bytes log q (λ m. refl);
+      blocks = λ q. sent_same (List Block) (λ t. fetched_blocks (counted t)) p bytes log q (λ m. refl);
       filters = same_gave log;
     }) (trials_sent p bytes log before.trials after.trials same.trials.paid same.trials.told same.trials.aims aim tracks.trials) tracks
 
@@ -256,20 +256,20 @@ tracks_ended s log tracks =
 -- ---- a peer that isn't connected
 
 -- what is kept of it is nothing
-off_chain : (t : Trail) → connected t ≡ false → chain_kept t ≡ None
+off_chain : (t : Trail) → is_connected t ≡ false → chain_kept t ≡ None
 off_chain t off = ap (λ (b : Bool). if b then Some (own t) else None) off
 
-off_claims : (t : Trail) (block : Hash) → connected t ≡ false → claims_kept t block ≡ None
+off_claims : (t : Trail) (block : Hash) → is_connected t ≡ false → claims_kept t block ≡ None
 off_claims t block off = ap (λ (b : Bool). (if b then claims (counted t) else no_claims) block) off
 
-pub none_claimed : (s : Seen) (log : Log) (p : ℕ) → connected (trail log p) ≡ false → Tracks s log → (block : Hash) → s.claims p block ≡ None
+pub none_claimed : (s : Seen) (log : Log) (p : ℕ) → is_connected (trail log p) ≡ false → Tracks s log → (block : Hash) → s.claims p block ≡ None
 none_claimed s log p off tracks block = tracks.claimed p block ∙ off_claims (trail log p) block off
 
 -- nor is anything open to it
-pub none_open : (s : Seen) (log : Log) (p : ℕ) → connected (trail log p) ≡ false → Tracks s log → Closes s.opens s.opens p
+pub none_open : (s : Seen) (log : Log) (p : ℕ) → is_connected (trail log p) ≡ false → Tracks s log → Closes s.opens s.opens p
 none_open s log p off tracks = closes_off s.opens p (trail log p) (tracks.opened p) off
 
-pub put_off : (s : Seen) (log : Log) (p : ℕ) → connected (trail log p) ≡ false → Tracks s log → IsPut s s p None no_claims
+pub put_off : (s : Seen) (log : Log) (p : ℕ) → is_connected (trail log p) ≡ false → Tracks s log → IsPut s s p None no_claims
 put_off s log p off tracks = record {
   opens = none_open s log p off tracks;
   watch = refl;
@@ -283,7 +283,7 @@ put_off s log p off tracks = record {
 }
 
 -- it goes once more
-pub tracks_away : (s : Seen) (p : PeerNo) (log : Log) → connected (trail log p.0) ≡ false → Tracks s log → Tracks s (Took (Gone p) ∷ log)
+pub tracks_away : (s : Seen) (p : PeerNo) (log : Log) → is_connected (trail log p.0) ≡ false → Tracks s log → Tracks s (Took (Gone p) ∷ log)
 tracks_away s p log off tracks = tracks_gone s s p log (put_off s log p.0 off tracks) tracks
 
 -- it couldn't be dialled
@@ -293,11 +293,11 @@ missed_here p name part = grind (arith, common_steps)
 missed_others : (p : PeerNo) (name : List ℕ) (q : ℕ) (part : Part) → q ≢ p.0 → went_on (NotDialled p name) q part ≡ part
 missed_others p name q part ne = grind (arith, common_steps)
 
-pub tracks_missed : (s : Seen) (p : PeerNo) (name : List ℕ) (log : Log) → connected (trail log p.0) ≡ false → Tracks s log → Tracks s (NotDialled p name ∷ log)
+pub tracks_missed : (s : Seen) (p : PeerNo) (name : List ℕ) (log : Log) → is_connected (trail log p.0) ≡ false → Tracks s log → Tracks s (NotDialled p name ∷ log)
 tracks_missed s p name log off tracks =
     let here = missed_here p name (part_of log p.0) in
-    tracks_lost s s p log (NotDialled p name ∷ log) (put_off s log p.0 off tracks) (ap (λ (x : Part). connected x.trail) here) (λ q other. missed_others p name q (part_of log q) other)
-    (ap (λ (x : Part). fetched (counted x.trail)) here) (same_gave log) (trials_stay (NotDialled p name) log s.trials tt tt tracks.trials) tracks
+    tracks_lost s s p log (NotDialled p name ∷ log) (put_off s log p.0 off tracks) (ap (λ (x : Part). is_connected x.trail) here) (λ q other. missed_others p name q (part_of log q) other)
+    (ap (λ (x : Part). fetched_blocks (counted x.trail)) here) (same_gave log) (trials_stay (NotDialled p name) log s.trials tt tt tracks.trials) tracks
 
 -- what it says doesn't count
 pub got_here : (p : PeerNo) (piece : List ℕ) (part : Part) → went_on (Took (Got p piece)) p.0 part ≡ heard_part piece part
@@ -306,23 +306,23 @@ got_here p piece part = grind (arith, common_steps)
 pub got_others : (p : PeerNo) (piece : List ℕ) (q : ℕ) (part : Part) → q ≢ p.0 → went_on (Took (Got p piece)) q part ≡ part
 got_others p piece q part ne = grind (arith, common_steps)
 
-deaf_gave : (p : PeerNo) (piece : List ℕ) (log : Log) → given (counted (trail (Took (Got p piece) ∷ log) p.0)) ≡ given (counted (trail log p.0)) → IsSameGiven log (Took (Got p piece) ∷ log)
+deaf_gave : (p : PeerNo) (piece : List ℕ) (log : Log) → given_filters (counted (trail (Took (Got p piece) ∷ log) p.0)) ≡ given_filters (counted (trail log p.0)) → IsSameGiven log (Took (Got p piece) ∷ log)
 deaf_gave p piece log same =
     let next = Took (Got p piece) ∷ log in
     none_came_same_given (Took (Got p piece)) log (λ q. elim (cases_eq q p.0) [
-      | inl is ↦ subst (λ (k : ℕ). given (counted (trail next k)) ≡ given (counted (trail log k))) (sym is) same
-      | inr other ↦ ap (λ (x : Part). given (counted x.trail)) (got_others p piece q (part_of log q) other)
+      | inl is ↦ subst (λ (k : ℕ). given_filters (counted (trail next k)) ≡ given_filters (counted (trail log k))) (sym is) same
+      | inr other ↦ ap (λ (x : Part). given_filters (counted x.trail)) (got_others p piece q (part_of log q) other)
     ])
 
-pub tracks_deaf : (s : Seen) (p : PeerNo) (piece : List ℕ) (log : Log) → connected (trail log p.0) ≡ false → Tracks s log → Tracks s (Took (Got p piece) ∷ log)
+pub tracks_deaf : (s : Seen) (p : PeerNo) (piece : List ℕ) (log : Log) → is_connected (trail log p.0) ≡ false → Tracks s log → Tracks s (Took (Got p piece) ∷ log)
 tracks_deaf s p piece log off tracks =
     let here = got_here p piece (part_of log p.0) in
     let deaf = heard_deaf piece (part_of log p.0) off in
-    let same = ap (λ (x : Part). given (counted x.trail)) here ∙ ap given deaf in
-    tracks_lost s s p log (Took (Got p piece) ∷ log) (put_off s log p.0 off tracks) (ap (λ (x : Part). connected x.trail) here ∙ heard_on piece (part_of log p.0) ∙ off)
+    let same = ap (λ (x : Part). given_filters (counted x.trail)) here ∙ ap given_filters deaf in
+    tracks_lost s s p log (Took (Got p piece) ∷ log) (put_off s log p.0 off tracks) (ap (λ (x : Part). is_connected x.trail) here ∙ heard_on piece (part_of log p.0) ∙ off)
     (λ q other. got_others p piece q (part_of log q) other)
-    (ap (λ (x : Part). fetched (counted x.trail)) here ∙ ap fetched deaf) (deaf_gave p piece log same)
-    (trials_piece p piece log s.trials s.trials [] [] (ap (λ (x : Part). fetched (counted x.trail)) here ∙ ap fetched deaf) same
+    (ap (λ (x : Part). fetched_blocks (counted x.trail)) here ∙ ap fetched_blocks deaf) (deaf_gave p piece log same)
+    (trials_piece p piece log s.trials s.trials [] [] (ap (λ (x : Part). fetched_blocks (counted x.trail)) here ∙ ap fetched_blocks deaf) same
     (go_self s.trials p.0) tracks.trials) tracks
 
 -- ---- a piece of a connected peer
@@ -335,7 +335,7 @@ tracks_heard p peer seen now before after piece log heard tracks =
     let here : part_of next p.0 ≡ heard_part piece (part_of log p.0) = got_here p piece (part_of log p.0) in
     let others : (q : ℕ) → q ≢ p.0 → part_of next q ≡ part_of log q = λ q ne. got_others p piece q (part_of log q) ne in
     let end : Trail = (heard_part piece (part_of log p.0)).trail in
-    let on : connected end ≡ true = heard.holds.on in
+    let on : is_connected end ≡ true = heard.holds.on in
     let used : SameUse end = same_use end on heard.holds.clean in
     let t : trail next p.0 ≡ end = ap (λ (x : Part). x.trail) here in
     record {
@@ -350,13 +350,13 @@ tracks_heard p peer seen now before after piece log heard tracks =
         | inr other ↦ heard.gains.claims q other block ∙ tracks.claimed q block ∙ sym (ap (λ (x : Part). claims_kept x.trail block) (others q other))
       ];
       fetched = subst (λ (w : List (List ℕ)). HoldsFetched w next now.table) (sym heard.gains.watch)
-          (holds_after_piece seen.watch p piece log heard.news seen.table now.table (ap (λ (x : Trail). fetched (counted x)) t ∙ heard.brings) heard.gains.table tracks.fetched);
+          (holds_after_piece seen.watch p piece log heard.news seen.table now.table (ap (λ (x : Trail). fetched_blocks (counted x)) t ∙ heard.brings) heard.gains.table tracks.fetched);
       given = subst (λ (w : List (List ℕ)). HoldsGiven w next now.verdicts) (sym heard.gains.watch)
-          (verdicts_go p piece log seen.watch seen.trials seen.verdicts now.verdicts heard.jobs (ap (λ (x : Trail). given (counted x)) t ∙ heard.gives) heard.gains.verdicts tracks.trials tracks.given);
+          (verdicts_go p piece log seen.watch seen.trials seen.verdicts now.verdicts heard.jobs (ap (λ (x : Trail). given_filters (counted x)) t ∙ heard.gives) heard.gains.verdicts tracks.trials tracks.given);
       opened = opens_put log next seen.opens now.opens p.0 tracks.opened heard.gains.opens (λ q other. ap (λ (x : Part). x.trail) (others q other))
           (subst (OpensAt now.opens p.0) (sym t) heard.gains.follows.opens);
       trials = trials_piece p piece log seen.trials now.trials heard.news heard.jobs
-          (ap (λ (x : Trail). fetched (counted x)) t ∙ heard.brings) (ap (λ (x : Trail). given (counted x)) t ∙ heard.gives) heard.gains.trials tracks.trials;
+          (ap (λ (x : Trail). fetched_blocks (counted x)) t ∙ heard.brings) (ap (λ (x : Trail). given_filters (counted x)) t ∙ heard.gives) heard.gains.trials tracks.trials;
     }
 
 -- One in which a frame deserves a cause: what was seen stands for the log with the piece, but for p's chain and claims, which are given up with it.
@@ -373,13 +373,13 @@ tracks_faulty p seen now last before acts piece log cause fault put tracks =
           kept = λ q. refl;
           claimed = λ q block. refl;
           fetched = subst (λ (w : List (List ℕ)). HoldsFetched w next last.table) (sym (put.watch ∙ fault.kept.watch))
-              (holds_after_piece seen.watch p piece log fault.news seen.table last.table (ap (λ (x : Trail). fetched (counted x)) t ∙ fault.brings) (λ hash. put.table hash ∙ fault.kept.table hash) tracks.fetched);
+              (holds_after_piece seen.watch p piece log fault.news seen.table last.table (ap (λ (x : Trail). fetched_blocks (counted x)) t ∙ fault.brings) (λ hash. put.table hash ∙ fault.kept.table hash) tracks.fetched);
           given = subst (λ (w : List (List ℕ)). HoldsGiven w next last.verdicts) (sym (put.watch ∙ fault.kept.watch))
-              (verdicts_go p piece log seen.watch seen.trials seen.verdicts last.verdicts fault.jobs (ap (λ (x : Trail). given (counted x)) t ∙ fault.gives)
+              (verdicts_go p piece log seen.watch seen.trials seen.verdicts last.verdicts fault.jobs (ap (λ (x : Trail). given_filters (counted x)) t ∙ fault.gives)
               (λ block hash. put.verdicts block hash ∙ fault.kept.verdicts block hash) tracks.trials tracks.given);
           opened = holds_by next;
           trials = trials_piece p piece log seen.trials last.trials fault.news fault.jobs
-              (ap (λ (x : Trail). fetched (counted x)) t ∙ fault.brings) (ap (λ (x : Trail). given (counted x)) t ∙ fault.gives)
+              (ap (λ (x : Trail). fetched_blocks (counted x)) t ∙ fault.brings) (ap (λ (x : Trail). given_filters (counted x)) t ∙ fault.gives)
               (go_on seen.trials now.trials last.trials p.0 fault.news fault.jobs fault.kept.trials put.trials) tracks.trials;
         },
         record {
@@ -403,13 +403,13 @@ seen_at s log = record s { chains = λ q. chain_kept (trail log q); claims = λ 
 
 pub tracks_exposed : (p : PeerNo) (seen now : Seen) (before acts : List Act) (piece : List ℕ) (log : Log) (block filter : Hash)
     → (x : HeardExposed p seen now before acts (part_of log p.0) (heard_part piece (part_of log p.0)) block filter)
-    → (fetched (counted (heard_part piece (part_of log p.0)).trail) ≡ fetched (counted x.so_far)) → (given (counted (heard_part piece (part_of log p.0)).trail) ≡ given (counted x.so_far))
+    → (fetched_blocks (counted (heard_part piece (part_of log p.0)).trail) ≡ fetched_blocks (counted x.so_far)) → (given_filters (counted (heard_part piece (part_of log p.0)).trail) ≡ given_filters (counted x.so_far))
     → Tracks seen log → Tracks (seen_at now (Took (Got p piece) ∷ log)) (Took (Got p piece) ∷ log)
 tracks_exposed p seen now before acts piece log block filter x blocks filters tracks =
     let next = Took (Got p piece) ∷ log in
     let t : trail next p.0 ≡ (heard_part piece (part_of log p.0)).trail = ap (λ (y : Part). y.trail) (got_here p piece (part_of log p.0)) in
-    let brings : fetched (counted (trail next p.0)) ≡ x.news ++ fetched (counted (trail log p.0)) = ap (λ (u : Trail). fetched (counted u)) t ∙ blocks ∙ x.brings in
-    let gives : given (counted (trail next p.0)) ≡ x.jobs ++ given (counted (trail log p.0)) = ap (λ (u : Trail). given (counted u)) t ∙ filters ∙ x.gives in
+    let brings : fetched_blocks (counted (trail next p.0)) ≡ x.news ++ fetched_blocks (counted (trail log p.0)) = ap (λ (u : Trail). fetched_blocks (counted u)) t ∙ blocks ∙ x.brings in
+    let gives : given_filters (counted (trail next p.0)) ≡ x.jobs ++ given_filters (counted (trail log p.0)) = ap (λ (u : Trail). given_filters (counted u)) t ∙ filters ∙ x.gives in
     record {
       kept = λ q. refl;
       claimed = λ q at. refl;

@@ -22,7 +22,7 @@ use Rattle.cf_msg.specs.declared.msg.Msg.TheVariants.{GetCfheaders, GetCfilters,
 use Rattle.cf_peer.specs.declared.mode.Mode.{Mode}
 use Rattle.cf_peer.specs.Asking.{HasHeader, IsClaimed, IsFree, IsRange, MayAskIn, block_entry, blocks_from, claims, counted, hashes_of, verdict}
 use Rattle.cf_wires.specs.Log.{Log}
-use Rattle.cf_peer.specs.Trail.{Trail, trail, connected, own}
+use Rattle.cf_peer.specs.Trail.{Trail, trail, is_connected, own}
 use Rattle.cf_sync.specs.Fetching.{IsFilterWanted, AreFiltersWanted, IsNeeded, IsBlockWanted, IsTestOf, MaySendIn, blocks_in}
 use Rattle.cf_sync.proofs.FreshTests.{test_alone, tip_only}
 use Rattle.cf_holds.proofs.KeptOpens.{block_alone, filters_alone}
@@ -177,7 +177,7 @@ in_low (x ∷ below) k block le i = elim (cases_lt (length below) k) [
 -- ---- and may be asked for
 
 -- a connected peer's claims, as they are kept
-claims_are : (s : Seen) (log : Log) (p : ℕ) → Tracks s log → connected (trail log p) ≡ true → verdict (trail log p) ≡ None → (block : Hash) → s.claims p block ≡ claims (trail log p) block
+claims_are : (s : Seen) (log : Log) (p : ℕ) → Tracks s log → is_connected (trail log p) ≡ true → verdict (trail log p) ≡ None → (block : Hash) → s.claims p block ≡ claims (trail log p) block
 claims_are s log p tracks on clean block =
     let t = trail log p in
     tracks.claimed p block ∙ ap (λ (b : Bool). (if b then claims (counted t) else no_claims) block) on ∙ ap (λ (c : dispute.Table). c block) (same_use t on clean).claiming

@@ -12,8 +12,8 @@ use Rattle.cf_peer.specs.declared.peer.Cause.{Cause}
 use Rattle.cf_peer.specs.declared.peer.Peer.{Peer}
 use Rattle.cf_peer.specs.declared.peer.Reaction.{Reaction}
 use Rattle.cf_peer.specs.declared.peer.Reaction.TheVariants.{Nothing as NoReply, Send, Close, Expose}
-use Rattle.cf_peer.specs.Trail.{Trail, Part, Said, connected, part_after, has_version, replies_owed, reply_to}
-use Rattle.cf_peer.specs.Asking.{NothingOpen, claims, request, verdict, counted, fetched, fetched_by, given, given_by}
+use Rattle.cf_peer.specs.Trail.{Trail, Part, Said, is_connected, part_after, has_version, replies_owed, reply_to}
+use Rattle.cf_peer.specs.Asking.{NothingOpen, claims, request, verdict, counted, fetched_blocks, fetched_by, given_filters, given_by}
 use Rattle.cf_peer.specs.Hearing.{IsReply, Faulty}
 use Rattle.cf_peer.specs.Peer.{Holds, Hears}
 use Rattle.cf_tables.specs.Tables.{IsSameTable, with_blocks}
@@ -93,11 +93,11 @@ pub record AreReplies (replies : List Msg) (t : Trail) : Type 0 where
 
 -- what the blocks were that a trail brought since another
 abbrev pub Brings : Trail → Trail → List Block → Type 0
-Brings start end news = fetched (counted end) ≡ news ++ fetched (counted start)
+Brings start end news = fetched_blocks (counted end) ≡ news ++ fetched_blocks (counted start)
 
 -- what the filters were that a trail was given since another, in their order
 abbrev pub Gives : Trail → Trail → List Job → Type 0
-Gives start end jobs = given (counted end) ≡ jobs ++ given (counted start)
+Gives start end jobs = given_filters (counted end) ≡ jobs ++ given_filters (counted start)
 
 -- a piece was taken whole, or up to the first frame that deserves a cause
 pub record HeardWhole (p : PeerNo) (new : Peer) (seen now : Seen) (before after : List Act) (start end : Part) : Type 0 where
@@ -144,7 +144,7 @@ pub record HeardExposed (p : PeerNo) (seen now : Seen) (before after : List Act)
   pub replies : List Msg
   pub acts : after ≡ before ++ map (λ (m : Msg). SendTo p m) replies
   pub are : AreReplies replies so_far
-  pub on : connected so_far ≡ true
+  pub on : is_connected so_far ≡ true
   pub clean : verdict so_far ≡ None
   pub idle : request so_far ≡ NothingOpen
   pub later : List ℕ

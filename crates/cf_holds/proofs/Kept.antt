@@ -13,7 +13,7 @@ use Rattle.cf_match.specs.declared.job.Verdict.TheVariants.{Miss, Hit}
 use Rattle.cf_match.specs.Verdicts.{Verdicts, misses, verdict_of}
 use Rattle.cf_peer.specs.Asking.{claims, counted}
 use Rattle.cf_wires.specs.Log.{Log}
-use Rattle.cf_peer.specs.Trail.{Trail, trail, connected}
+use Rattle.cf_peer.specs.Trail.{Trail, trail, is_connected}
 use Rattle.cf_scan.specs.declared.extracts.TxExtract.{TxExtract}
 use Rattle.cf_tables.specs.Known.{ExtractTable}
 use Rattle.cf_sync.specs.Fetching.{counted_part, IsConnected, IsAgreed, IsDisputed, IsJudged, IsSettled, IsFilterWanted, IsBlockWanted}
@@ -28,7 +28,7 @@ there_by false t block claim e = cc
 
 pub claims_by : (l : Log) (tables : Tables) → HoldsClaims l tables → (p : ℕ) (block : Hash) (hash : Hash32) → Claims tables p block hash → IsConnected l p × log.HasClaimed l p block hash
 claims_by l tables h p block hash c =
-    let w = there_by (connected (trail l p)) (trail l p) block c.0 (sym (h p block) ∙ c.1) in
+    let w = there_by (is_connected (trail l p)) (trail l p) block c.0 (sym (h p block) ∙ c.1) in
     (w.0, ap (λ (o : Option Claim). option_map (λ (x : Claim). x.hash) o) w.1 ∙ ap (λ (x : Hash32). Some x) c.2)
 
 mapped : (o : Option Claim) (hash : Hash32) → option_map (λ (c : Claim). c.hash) o ≡ Some hash → (claim : Claim) × (o ≡ Some claim) × (claim.hash ≡ hash)

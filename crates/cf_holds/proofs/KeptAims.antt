@@ -19,8 +19,8 @@ use Rattle.cf_wires.specs.declared.event.Event.{Event}
 use Rattle.cf_wires.specs.declared.event.Event.TheVariants.{Dialled, NotDialled, Sent, SendFailed, Closed, Took}
 use Rattle.cf_wires.specs.declared.event.Mark.TheVariants as mark
 use Rattle.cf_wires.specs.Log.{Log}
-use Rattle.cf_peer.specs.Trail.{Trail, Part, Said, Lost, called_part, with_item, part_after, heard_part, part_of, trail, went_on, asks, spelled, connected, own}
-use Rattle.cf_peer.specs.Asking.{OpenRequest, NothingOpen, HeadersOpen, ClaimsOpen, FiltersOpen, BlockOpen, PingOpen, block_asked, blocks_from, claims_asked, filter_of, filters_asked, is_answer_of, is_committed, is_wanted, request, request_after, counted, fetched, fetched_by, given, given_by}
+use Rattle.cf_peer.specs.Trail.{Trail, Part, Said, Lost, called_part, with_item, part_after, heard_part, part_of, trail, went_on, asks, spelled, is_connected, own}
+use Rattle.cf_peer.specs.Asking.{OpenRequest, NothingOpen, HeadersOpen, ClaimsOpen, FiltersOpen, BlockOpen, PingOpen, block_asked, blocks_from, claims_asked, filter_of, filters_asked, is_answer_of, is_committed, is_wanted, request, request_after, counted, fetched_blocks, fetched_by, given_filters, given_by}
 use Rattle.cf_filter.specs.Lacking.{output_items_of}
 use Rattle.cf_headers.specs.Rules.{same}
 use Rattle.cf_tables.specs.Outputs.{Paid, lacks_kept}
@@ -155,22 +155,22 @@ answer_on news jobs after before ends a = record { few = a.few; asked = by ends 
 -- what was brought since a trail
 pub record HasBrought (t c : Trail) : Type 0 where
   pub news : List Block
-  pub blocks : fetched c ≡ news ++ fetched (counted t)
+  pub blocks : fetched_blocks c ≡ news ++ fetched_blocks (counted t)
   pub jobs : List Job
-  pub filters : given c ≡ jobs ++ given (counted t)
+  pub filters : given_filters c ≡ jobs ++ given_filters (counted t)
   pub answer : IsAnswer news jobs (filters_open (request (counted t)))
 
 -- nothing yet, or what ended the request
 abbrev pub HasAnswered : Trail → Trail → Type 0
 HasAnswered t c =
-    ((fetched c ≡ fetched (counted t)) × (given c ≡ given (counted t)) × OnlyEnds (filters_open (request c)) (filters_open (request (counted t))))
+    ((fetched_blocks c ≡ fetched_blocks (counted t)) × (given_filters c ≡ given_filters (counted t)) × OnlyEnds (filters_open (request c)) (filters_open (request (counted t))))
     ⊎ ((request c ≡ NothingOpen) × HasBrought t c)
 
 said_on : (m : Msg) (t c : Trail) → HasAnswered t c → HasAnswered t (Said m ∷ c)
 said_on m t c (inl s) = elim (brings_said m (request c)) [
   | inl none ↦ inl (
-    ap (λ (bs : List Block). bs ++ fetched c) none.0 ∙ s.0,
-    ap (λ (js : List Job). js ++ given c) none.1 ∙ s.1,
+    ap (λ (bs : List Block). bs ++ fetched_blocks c) none.0 ∙ s.0,
+    ap (λ (js : List Job). js ++ given_filters c) none.1 ∙ s.1,
     ends_then (filters_open (request (counted t))) (filters_open (request c)) (filters_open (request_after m (request c))) s.2 (open_said m (request c)),
   )
   | inr ends ↦ inr (
@@ -188,9 +188,9 @@ said_on m t c (inr s) = inr (
   ap (request_after m) s.0 ∙ nothing_after m,
   record {
     news = s.1.news;
-    blocks = ap (λ (bs : List Block). bs ++ fetched c) (ap (fetched_by m) s.0 ∙ no_block m) ∙ s.1.blocks;
+    blocks = ap (λ (bs : List Block). bs ++ fetched_blocks c) (ap (fetched_by m) s.0 ∙ no_block m) ∙ s.1.blocks;
     jobs = s.1.jobs;
-    filters = ap (λ (js : List Job). js ++ given c) (ap (given_by m) s.0 ∙ no_filter m) ∙ s.1.filters;
+    filters = ap (λ (js : List Job). js ++ given_filters c) (ap (given_by m) s.0 ∙ no_filter m) ∙ s.1.filters;
     answer = s.1.answer;
   },
 )
@@ -236,7 +236,7 @@ aims_none log p aim none = record {
 
 -- who is connected was so before, or has nothing open
 abbrev WasOn : Log → ℕ → Part → Type 0
-WasOn log q part = connected part.trail ≡ true → IsConnected log q ⊎ (filters_open (request (counted part.trail)) ≡ [])
+WasOn log q part = is_connected part.trail ≡ true → IsConnected log q ⊎ (filters_open (request (counted part.trail)) ≡ [])
 
 was_on : (e : Event) (log : Log) (q : ℕ) → IsNoSend e → IsConnected (e ∷ log) q → IsConnected log q ⊎ (filters_open (request (counted_part (e ∷ log) q)) ≡ [])
 was_on (Sent p bytes) log q unsent on = absurd unsent
@@ -317,12 +317,12 @@ trials_same log before after paid told aims h = record {
 
 -- the items of what was fetched
 paid_go : (p : PeerNo) (piece : List ℕ) (log : Log) (paid : Paid) (news : List Block) → length news ≤ 1
-    → fetched (counted_part (Took (Got p piece) ∷ log) p.0) ≡ news ++ fetched (counted_part log p.0)
-    → ((q : ℕ) → (p.0 == q) ≡ false → fetched (counted_part (Took (Got p piece) ∷ log) q) ≡ fetched (counted_part log q))
+    → fetched_blocks (counted_part (Took (Got p piece) ∷ log) p.0) ≡ news ++ fetched_blocks (counted_part log p.0)
+    → ((q : ℕ) → (p.0 == q) ≡ false → fetched_blocks (counted_part (Took (Got p piece) ∷ log) q) ≡ fetched_blocks (counted_part log q))
     → HoldsOutputs log paid → HoldsOutputs (Took (Got p piece) ∷ log) (with_paid news paid)
 paid_go p piece log paid [] few brings others h = outputs_stay (Took (Got p piece)) log paid (λ q. by q (cases_Bool (p.0 == q))) h where
-  by : (q : ℕ) → ((p.0 == q) ≡ true) ⊎ ((p.0 == q) ≡ false) → fetched (counted_part (Took (Got p piece) ∷ log) q) ≡ fetched (counted_part log q)
-  by q (inl is) = subst (λ (k : ℕ). fetched (counted_part (Took (Got p piece) ∷ log) k) ≡ fetched (counted_part log k)) (eqb-true p.0 q is) brings
+  by : (q : ℕ) → ((p.0 == q) ≡ true) ⊎ ((p.0 == q) ≡ false) → fetched_blocks (counted_part (Took (Got p piece) ∷ log) q) ≡ fetched_blocks (counted_part log q)
+  by q (inl is) = subst (λ (k : ℕ). fetched_blocks (counted_part (Took (Got p piece) ∷ log) k) ≡ fetched_blocks (counted_part log k)) (eqb-true p.0 q is) brings
   by q (inr off) = others q off
 paid_go p piece log paid (b ∷ []) few brings others h = outputs_grow p piece log paid b brings h
 paid_go p piece log paid (b ∷ c ∷ more) few brings others h = absurd (omega (arith, few))
@@ -339,7 +339,7 @@ named job (j ∷ jobs) (inr i) = inr (named job jobs i)
 
 -- what was found of what was given
 told_go : (p : PeerNo) (piece : List ℕ) (log : Log) (s : Trials) (jobs : List Job)
-    → given (counted_part (Took (Got p piece) ∷ log) p.0) ≡ jobs ++ given (counted_part log p.0)
+    → given_filters (counted_part (Took (Got p piece) ∷ log) p.0) ≡ jobs ++ given_filters (counted_part log p.0)
     → (jobs ≡ []) ⊎ (map (λ (j : Job). j.block.0) jobs ≡ filters_open (request (counted_part log p.0)))
     → HoldsTrials log s → IsConnected log p.0 → AreTold (Took (Got p piece) ∷ log) s.paid (tested_if (s.aims p.0) s.paid jobs s.told)
 told_go p piece log s jobs gives asked h on = by (s.aims p.0) jobs refl gives (within_open asked) (one_open asked) where
@@ -349,14 +349,14 @@ told_go p piece log s jobs gives asked h on = by (s.aims p.0) jobs refl gives (w
   due : List Hash
   due = filters_open (request (counted_part log p.0))
 
-  none_tested : (js : List Job) → given (counted_part (Took (Got p piece) ∷ log) p.0) ≡ js ++ given (counted_part log p.0)
+  none_tested : (js : List Job) → given_filters (counted_part (Took (Got p piece) ∷ log) p.0) ≡ js ++ given_filters (counted_part log p.0)
       → ((job : Job) → IsIn job js → IsTest log p.0 job.block.0 → ⊥) → TestsNone (Took (Got p piece)) log
   none_tested js e none job (inr old) = old
   none_tested js e none job (inl new) =
-      let same1 : new.1.news ≡ js = append_cancel_right new.1.news js (given (counted_part log p.0)) (sym new.1.joined ∙ e) in
+      let same1 : new.1.news ≡ js = append_cancel_right new.1.news js (given_filters (counted_part log p.0)) (sym new.1.joined ∙ e) in
       absurd (none job (subst (λ (xs : List Job). IsIn job xs) same1 new.1.among) new.0)
 
-  stays : (js : List Job) → given (counted_part (Took (Got p piece) ∷ log) p.0) ≡ js ++ given (counted_part log p.0)
+  stays : (js : List Job) → given_filters (counted_part (Took (Got p piece) ∷ log) p.0) ≡ js ++ given_filters (counted_part log p.0)
       → ((job : Job) → IsIn job js → IsTest log p.0 job.block.0 → ⊥) → AreTold (Took (Got p piece) ∷ log) s.paid s.told
   stays js e none = (
     tests_stay (Took (Got p piece)) log s.told (none_tested js e none) h.told,
@@ -371,7 +371,7 @@ told_go p piece log s jobs gives asked h on = by (s.aims p.0) jobs refl gives (w
   one_open (inl none) aim = subst (λ (xs : List Job). length xs ≤ 1) (sym none) (omega arith)
   one_open (inr is) aim = (let few = at.few aim in omega (arith, few, length-map jobs (λ (j : Job). j.block.0), ap (λ (xs : List Hash). length xs) is))
 
-  by : (aim : Bool) (js : List Job) → s.aims p.0 ≡ aim → given (counted_part (Took (Got p piece) ∷ log) p.0) ≡ js ++ given (counted_part log p.0)
+  by : (aim : Bool) (js : List Job) → s.aims p.0 ≡ aim → given_filters (counted_part (Took (Got p piece) ∷ log) p.0) ≡ js ++ given_filters (counted_part log p.0)
       → ((job : Job) → IsIn job js → IsIn job.block.0 due) → (s.aims p.0 ≡ true → length js ≤ 1) → AreTold (Took (Got p piece) ∷ log) s.paid (tested_if aim s.paid js s.told)
   by false js off e into few = stays js e (λ job i t. at.judges off job.block.0 (into job i) t)
   by true [] on e into few = stays [] e (λ job i t. i)
@@ -391,12 +391,12 @@ paid_stays (b ∷ news) paid hash some = by (same (block_hash_of b.header) hash)
 
 -- what a piece brought is kept
 pub trials_piece : (p : PeerNo) (piece : List ℕ) (log : Log) (before after : Trials) (news : List Block) (jobs : List Job)
-    → fetched (counted_part (Took (Got p piece) ∷ log) p.0) ≡ news ++ fetched (counted_part log p.0)
-    → given (counted_part (Took (Got p piece) ∷ log) p.0) ≡ jobs ++ given (counted_part log p.0)
+    → fetched_blocks (counted_part (Took (Got p piece) ∷ log) p.0) ≡ news ++ fetched_blocks (counted_part log p.0)
+    → given_filters (counted_part (Took (Got p piece) ∷ log) p.0) ≡ jobs ++ given_filters (counted_part log p.0)
     → TrialsGo before after p.0 news jobs → HoldsTrials log before → HoldsTrials (Took (Got p piece) ∷ log) after
-trials_piece p piece log before after news jobs brings gives go h = elim (cases_Bool (connected (trail log p.0))) [ inl on ↦ by_piece on (piece_brings p piece log) | inr off ↦ unheard off ] where
-  others : (q : ℕ) → (p.0 == q) ≡ false → fetched (counted_part (Took (Got p piece) ∷ log) q) ≡ fetched (counted_part log q)
-  others q off = ap (λ (b : Bool). fetched (counted (if b then heard_part piece (part_of log q) else part_of log q).trail)) off
+trials_piece p piece log before after news jobs brings gives go h = elim (cases_Bool (is_connected (trail log p.0))) [ inl on ↦ by_piece on (piece_brings p piece log) | inr off ↦ unheard off ] where
+  others : (q : ℕ) → (p.0 == q) ≡ false → fetched_blocks (counted_part (Took (Got p piece) ∷ log) q) ≡ fetched_blocks (counted_part log q)
+  others q off = ap (λ (b : Bool). fetched_blocks (counted (if b then heard_part piece (part_of log q) else part_of log q).trail)) off
 
   -- what is told once what the piece brings is
   with_told : length news ≤ 1 → AreTold (Took (Got p piece) ∷ log) before.paid (tested_if (before.aims p.0) before.paid jobs before.told) → HoldsTrials (Took (Got p piece) ∷ log) after
@@ -419,7 +419,7 @@ trials_piece p piece log before after news jobs brings gives go h = elim (cases_
     same_tests : TestsNone (Took (Got p piece)) log
     same_tests job (inr old) = old
     same_tests job (inl new) =
-        let one : new.1.news ≡ [] = append_cancel_right new.1.news [] (given (counted_part log p.0)) (sym new.1.joined ∙ gives ∙ ap (λ (js : List Job). js ++ given (counted_part log p.0)) none) in
+        let one : new.1.news ≡ [] = append_cancel_right new.1.news [] (given_filters (counted_part log p.0)) (sym new.1.joined ∙ gives ∙ ap (λ (js : List Job). js ++ given_filters (counted_part log p.0)) none) in
         absurd (subst (λ (js : List Job). IsIn job js) one new.1.among)
 
     told_same : AreTold (Took (Got p piece) ∷ log) before.paid before.told
@@ -429,23 +429,23 @@ trials_piece p piece log before after news jobs brings gives go h = elim (cases_
     by_aim true = told_same
     by_aim false = told_same
 
-  unheard : connected (trail log p.0) ≡ false → HoldsTrials (Took (Got p piece) ∷ log) after
+  unheard : is_connected (trail log p.0) ≡ false → HoldsTrials (Took (Got p piece) ∷ log) after
   unheard off =
       let same1 : counted_part (Took (Got p piece) ∷ log) p.0 ≡ counted_part log p.0 =
       ap (λ (x : Part). counted x.trail) (got_here p piece (part_of log p.0)) ∙ heard_deaf piece (part_of log p.0) off in
-      let no_news : news ≡ [] = append_cancel_right news [] (fetched (counted_part log p.0)) (sym brings ∙ ap fetched same1) in
-      let no_jobs : jobs ≡ [] = append_cancel_right jobs [] (given (counted_part log p.0)) (sym gives ∙ ap given same1) in
+      let no_news : news ≡ [] = append_cancel_right news [] (fetched_blocks (counted_part log p.0)) (sym brings ∙ ap fetched_blocks same1) in
+      let no_jobs : jobs ≡ [] = append_cancel_right jobs [] (given_filters (counted_part log p.0)) (sym gives ∙ ap given_filters same1) in
       with_told (subst (λ (bs : List Block). length bs ≤ 1) (sym no_news) (omega arith)) (none_told (before.aims p.0) no_jobs)
 
   by_piece : IsConnected log p.0 → HasAnswered (trail log p.0) (counted_part (Took (Got p piece) ∷ log) p.0) → HoldsTrials (Took (Got p piece) ∷ log) after
   by_piece on (inl s) =
-      let no_news : news ≡ [] = append_cancel_right news [] (fetched (counted_part log p.0)) (sym brings ∙ s.0) in
-      let no_jobs : jobs ≡ [] = append_cancel_right jobs [] (given (counted_part log p.0)) (sym gives ∙ s.1) in
+      let no_news : news ≡ [] = append_cancel_right news [] (fetched_blocks (counted_part log p.0)) (sym brings ∙ s.0) in
+      let no_jobs : jobs ≡ [] = append_cancel_right jobs [] (given_filters (counted_part log p.0)) (sym gives ∙ s.1) in
       with_answer on (subst (λ (bs : List Block). length bs ≤ 1) (sym no_news) (omega arith)) (inl no_jobs)
   by_piece on (inr s) =
       let w = s.1 in
-      let same_news : w.news ≡ news = append_cancel_right w.news news (fetched (counted_part log p.0)) (sym w.blocks ∙ brings) in
-      let same_jobs : w.jobs ≡ jobs = append_cancel_right w.jobs jobs (given (counted_part log p.0)) (sym w.filters ∙ gives) in
+      let same_news : w.news ≡ news = append_cancel_right w.news news (fetched_blocks (counted_part log p.0)) (sym w.blocks ∙ brings) in
+      let same_jobs : w.jobs ≡ jobs = append_cancel_right w.jobs jobs (given_filters (counted_part log p.0)) (sym w.filters ∙ gives) in
       let answer : IsAnswer news jobs (filters_open (request (counted_part log p.0))) =
       subst (λ (bs : List Block). IsAnswer bs jobs (filters_open (request (counted_part log p.0)))) same_news
       (subst (λ (js : List Job). IsAnswer w.news js (filters_open (request (counted_part log p.0)))) same_jobs w.answer) in
@@ -535,21 +535,21 @@ aims_other p bytes log o aim is unasked a =
 -- who was sent something is connected as before
 pub sent_on : (p : PeerNo) (bytes : List ℕ) (log : Log) (q : ℕ) → IsConnected (Sent p bytes ∷ log) q → IsConnected log q
 sent_on p bytes log q on =
-    at_either (λ (x : Part). connected x.trail ≡ true → IsConnected log q) (p.0 == q) (record (part_of log q) { trail = asks (spelled bytes) (trail log q) }) (part_of log q)
+    at_either (λ (x : Part). is_connected x.trail ≡ true → IsConnected log q) (p.0 == q) (record (part_of log q) { trail = asks (spelled bytes) (trail log q) }) (part_of log q)
     (λ is. by (spelled bytes)) (λ off on. on) on where
-      by : (o : Option Msg) → connected (asks o (trail log q)) ≡ true → IsConnected log q
+      by : (o : Option Msg) → is_connected (asks o (trail log q)) ≡ true → IsConnected log q
       by None on = on
       by (Some m) on = on
 
 -- who isn't cut off was connected before
 pub closed_on : (p : PeerNo) (log : Log) (q : ℕ) → IsConnected (Closed p ∷ log) q → IsConnected log q
 closed_on p log q on =
-    at_either (λ (x : Part). connected x.trail ≡ true → IsConnected log q) (p.0 == q) (with_item (Lost mark.Closed) (part_of log q)) (part_of log q)
+    at_either (λ (x : Part). is_connected x.trail ≡ true → IsConnected log q) (p.0 == q) (with_item (Lost mark.Closed) (part_of log q)) (part_of log q)
     (λ is on. absurd (false≢true on)) (λ off on. on) on
 
 pub failed_on : (p : PeerNo) (log : Log) (q : ℕ) → IsConnected (SendFailed p ∷ log) q → IsConnected log q
 failed_on p log q on =
-    at_either (λ (x : Part). connected x.trail ≡ true → IsConnected log q) (p.0 == q) (with_item (Lost mark.SendFailed) (part_of log q)) (part_of log q)
+    at_either (λ (x : Part). is_connected x.trail ≡ true → IsConnected log q) (p.0 == q) (with_item (Lost mark.SendFailed) (part_of log q)) (part_of log q)
     (λ is on. absurd (false≢true on)) (λ off on. on) on
 
 -- and what is kept goes on
@@ -674,5 +674,5 @@ trials_alike planned log s parts same1 to from aims h = record {
   by : (q : ℕ) → Alike (part_of planned q) (part_of log q) → IsConnected log q → AimsAt log q (s.aims q)
   by q (inl e) on =
       aims_go planned log q (s.aims q) (inl (ap (λ (x : Part). filters_open (request (counted x.trail))) (sym e))) (λ block t. (aims q on block).0 t) (λ block t. (aims q on block).1 t)
-      (h.aims q (ap (λ (x : Part). connected x.trail) e ∙ on))
-  by q (inr off) on = absurd (both_ways (connected (trail log q)) off.1 on)
+      (h.aims q (ap (λ (x : Part). is_connected x.trail) e ∙ on))
+  by q (inr off) on = absurd (both_ways (is_connected (trail log q)) off.1 on)

@@ -11,8 +11,8 @@ use Rattle.cf_wires.specs.declared.event.Delivery.TheVariants.{Got}
 use Rattle.cf_wires.specs.declared.event.Event.{Event}
 use Rattle.cf_wires.specs.declared.event.Event.TheVariants.{Took}
 use Rattle.cf_wires.specs.Log.{Log}
-use Rattle.cf_peer.specs.Asking.{counted, given, request}
-use Rattle.cf_peer.specs.Trail.{Part, connected, part_of, trail}
+use Rattle.cf_peer.specs.Asking.{counted, given_filters, request}
+use Rattle.cf_peer.specs.Trail.{Part, is_connected, part_of, trail}
 use Rattle.cf_tables.specs.Trials.{Trials, judged_if}
 use Rattle.cf_sync.specs.Fetching.{counted_part, filters_open, IsConnected, IsGiven, IsTest}
 use Rattle.cf_holds.specs.Kept.{HoldsTrials}
@@ -23,7 +23,7 @@ use Rattle.cf_holds.proofs.KeptAims.{HasAnswered, got_here, named, piece_brings}
 use Rattle.cf_holds.proofs.VerdictsGrow.{grown_given, same_given}
 
 module _ (p : PeerNo) (piece : List ℕ) (log : Log) (jobs : List Job)
-    (gives : given (counted_part (Took (Got p piece) ∷ log) p.0) ≡ jobs ++ given (counted_part log p.0)) where
+    (gives : given_filters (counted_part (Took (Got p piece) ∷ log) p.0) ≡ jobs ++ given_filters (counted_part log p.0)) where
   abbrev e : Event
   e = Took (Got p piece)
 
@@ -38,24 +38,24 @@ module _ (p : PeerNo) (piece : List ℕ) (log : Log) (jobs : List Job)
   none_due none job i = absurd (subst (λ (xs : List Job). IsIn job xs) none i)
 
   are_due : (job : Job) → IsIn job jobs → IsDue job
-  are_due = elim (cases_Bool (connected (trail log p.0))) [
+  are_due = elim (cases_Bool (is_connected (trail log p.0))) [
     | inl on ↦ by_piece on (piece_brings p piece log)
     | inr off ↦ unheard off
   ] where
-    unheard : connected (trail log p.0) ≡ false → (job : Job) → IsIn job jobs → IsDue job
+    unheard : is_connected (trail log p.0) ≡ false → (job : Job) → IsIn job jobs → IsDue job
     unheard off =
         let same1 : counted_part (Took (Got p piece) ∷ log) p.0 ≡ counted_part log p.0 =
         ap (λ (x : Part). counted x.trail) (got_here p piece (part_of log p.0))
         ∙ heard_deaf piece (part_of log p.0) off in
-        none_due (append_cancel_right jobs [] (given (counted_part log p.0)) (sym gives ∙ ap given same1))
+        none_due (append_cancel_right jobs [] (given_filters (counted_part log p.0)) (sym gives ∙ ap given_filters same1))
 
     by_piece : IsConnected log p.0 → HasAnswered (trail log p.0) (counted_part (Took (Got p piece) ∷ log) p.0)
         → (job : Job) → IsIn job jobs → IsDue job
-    by_piece on (inl s) = none_due (append_cancel_right jobs [] (given (counted_part log p.0)) (sym gives ∙ s.1))
+    by_piece on (inl s) = none_due (append_cancel_right jobs [] (given_filters (counted_part log p.0)) (sym gives ∙ s.1))
     by_piece on (inr s) =
         let w = s.1 in
         let same_jobs : w.jobs ≡ jobs =
-        append_cancel_right w.jobs jobs (given (counted_part log p.0)) (sym w.filters ∙ gives) in
+        append_cancel_right w.jobs jobs (given_filters (counted_part log p.0)) (sym w.filters ∙ gives) in
         elim w.answer.asked [
           | inl none ↦ none_due (sym same_jobs ∙ none)
           | inr is ↦ λ job i. (
@@ -70,7 +70,7 @@ module _ (p : PeerNo) (piece : List ℕ) (log : Log) (jobs : List Job)
   comes job (inr old) = inl old
   comes job (inl new) =
       let one : new.1.news ≡ jobs =
-      append_cancel_right new.1.news jobs (given (counted_part log p.0)) (sym new.1.joined ∙ gives) in
+      append_cancel_right new.1.news jobs (given_filters (counted_part log p.0)) (sym new.1.joined ∙ gives) in
       inr (subst (λ (xs : List Job). IsIn job xs) one new.1.among, new.0)
 
   -- filters that were asked for so that they are tested give nothing; others are given
@@ -94,7 +94,7 @@ module _ (p : PeerNo) (piece : List ℕ) (log : Log) (jobs : List Job)
 
 pub verdicts_go : (p : PeerNo) (piece : List ℕ) (log : Log) (watch : List (List ℕ)) (trials : Trials) (before after : Verdicts)
     (jobs : List Job)
-    → given (counted_part (Took (Got p piece) ∷ log) p.0) ≡ jobs ++ given (counted_part log p.0)
+    → given_filters (counted_part (Took (Got p piece) ∷ log) p.0) ≡ jobs ++ given_filters (counted_part log p.0)
     → AreSameVerdicts after (judged_if (trials.aims p.0) watch jobs before) → HoldsTrials log trials
     → HoldsGiven watch log before → HoldsGiven watch (Took (Got p piece) ∷ log) after
 verdicts_go p piece log watch trials before after jobs gives alike h holds =

@@ -10,7 +10,7 @@ use Rattle.cf_match.specs.Verdicts.{Verdicts}
 use Rattle.cf_msg.specs.declared.msg.Inventory.{Inventory}
 use Rattle.cf_msg.specs.declared.msg.Msg.TheVariants.{GetData, GetCfilters}
 use Rattle.cf_wires.specs.Log.{Log}
-use Rattle.cf_peer.specs.Trail.{Trail, trail, connected, own}
+use Rattle.cf_peer.specs.Trail.{Trail, trail, is_connected, own}
 use Rattle.cf_peer.specs.Asking.{OpenRequest, NothingOpen, FiltersOpen, BlockOpen, block_entry, request}
 use Rattle.cf_seek.specs.Opens.{Opens, IsFilterFree, IsBlockFree}
 use Rattle.cf_seek.specs.Opening.{IsSameElse, Closes, OpensFilters, OpensBlock}
@@ -73,7 +73,7 @@ opens_put log next before after p h else_same parts here q = elim (cases_eq q p)
 ]
 
 -- filters were asked of a peer to which nothing was open
-pub opens_filters : (before after : Opens) (p : ℕ) (t u : Trail) (asked : List Hash) → OpensAt before p t → request t ≡ NothingOpen → OpensFilters before after p asked → connected u ≡ true → request u ≡ FiltersOpen asked [] → OpensAt after p u
+pub opens_filters : (before after : Opens) (p : ℕ) (t u : Trail) (asked : List Hash) → OpensAt before p t → request t ≡ NothingOpen → OpensFilters before after p asked → is_connected u ≡ true → request u ≡ FiltersOpen asked [] → OpensAt after p u
 opens_filters before after p t u asked h idle opens on e = record {
   filters = λ b is. (
     on,
@@ -88,7 +88,7 @@ opens_filters before after p t u asked h idle opens on e = record {
 }
 
 -- a block was
-pub opens_block : (before after : Opens) (p : ℕ) (t u : Trail) (asked : Hash) → OpensAt before p t → request t ≡ NothingOpen → OpensBlock before after p asked → connected u ≡ true → request u ≡ BlockOpen asked → OpensAt after p u
+pub opens_block : (before after : Opens) (p : ℕ) (t u : Trail) (asked : Hash) → OpensAt before p t → request t ≡ NothingOpen → OpensBlock before after p asked → is_connected u ≡ true → request u ≡ BlockOpen asked → OpensAt after p u
 opens_block before after p t u asked h idle opens on e = record {
   filters = λ b is. absurd (subst (λ (r : OpenRequest). IsIn b (filters_open r)) idle (h.filters b (sym (opens.filters b) ∙ is)).1);
   all_filters = λ b there i. absurd (subst (λ (r : OpenRequest). IsIn b (filters_open r)) e i);
@@ -100,7 +100,7 @@ opens_block before after p t u asked h idle opens on e = record {
 }
 
 -- a peer has answered, or is lost
-pub opens_closed : (before after : Opens) (p : ℕ) (u : Trail) → Closes before after p → (connected u ≡ true → request u ≡ NothingOpen) → OpensAt after p u
+pub opens_closed : (before after : Opens) (p : ℕ) (u : Trail) → Closes before after p → (is_connected u ≡ true → request u ≡ NothingOpen) → OpensAt after p u
 opens_closed before after p u closes idle = record {
   filters = λ b is. absurd (both_ways (after.filters p b) (closes.filters b) is);
   all_filters = λ b on i. absurd (subst (λ (r : OpenRequest). IsIn b (filters_open r)) (idle on) i);
@@ -109,7 +109,7 @@ opens_closed before after p u closes idle = record {
 }
 
 -- the same stands in what is open to it
-pub opens_same : (opens : Opens) (p : ℕ) (t u : Trail) → OpensAt opens p t → connected u ≡ connected t
+pub opens_same : (opens : Opens) (p : ℕ) (t u : Trail) → OpensAt opens p t → is_connected u ≡ is_connected t
     → ((b : Hash) → IsIn b (filters_open (request u)) → IsIn b (filters_open (request t))) → ((b : Hash) → IsIn b (filters_open (request t)) → IsIn b (filters_open (request u)))
     → ((b : Hash) → IsIn b (blocks_open (request u)) → IsIn b (blocks_open (request t))) → ((b : Hash) → IsIn b (blocks_open (request t)) → IsIn b (blocks_open (request u))) → OpensAt opens p u
 opens_same opens p t u h on back forth back_b forth_b = record {

@@ -23,7 +23,7 @@ use Rattle.cf_wires.specs.declared.event.Event.{Event}
 use Rattle.cf_wires.specs.declared.event.Event.TheVariants.{Dialled, NotDialled, Sent, SendFailed, Closed, Took}
 use Rattle.cf_wires.specs.Log.{Log}
 use Rattle.cf_peer.specs.declared.mode.Mode.TheVariants.{Following}
-use Rattle.cf_peer.specs.Asking.{fetched, given}
+use Rattle.cf_peer.specs.Asking.{fetched_blocks, given_filters}
 use Rattle.cf_peer.specs.Trail.{trail, own}
 use Rattle.cf_scan.specs.declared.extracts.TxExtract.{TxExtract}
 use Rattle.cf_tables.specs.Outputs.{Paid, lacks_kept, put_outputs}
@@ -177,7 +177,7 @@ too_false (Some true) v e = absurd (false≢true (sym e))
 too_false (Some false) v e = (inl refl, e)
 
 module _ (q : PeerNo) (piece : List ℕ) (l : Log) (told : TestResults) (paid : Paid) (job : Job) (k : HoldsTests l told) (clean : AreClean l paid told) (outputs : HoldsOutputs l paid)
-    (test : IsTest l q.0 job.block.0) (given_is : given (counted_part (Took (Got q piece) ∷ l) q.0) ≡ job ∷ given (counted_part l q.0)) where
+    (test : IsTest l q.0 job.block.0) (given_is : given_filters (counted_part (Took (Got q piece) ∷ l) q.0) ≡ job ∷ given_filters (counted_part l q.0)) where
   abbrev e : Event
   e = Took (Got q piece)
 
@@ -211,7 +211,7 @@ module _ (q : PeerNo) (piece : List ℕ) (l : Log) (told : TestResults) (paid : 
   only : (j : Job) → IsTested (e ∷ l) j → IsTested l j ⊎ (j ≡ job)
   only j (inr old) = inl old
   only j (inl new) =
-      let one : new.1.news ≡ job ∷ [] = append_cancel_right new.1.news (job ∷ []) (given (counted_part l q.0)) (sym new.1.joined ∙ given_is) in
+      let one : new.1.news ≡ job ∷ [] = append_cancel_right new.1.news (job ∷ []) (given_filters (counted_part l q.0)) (sym new.1.joined ∙ given_is) in
       by (subst (λ (js : List Job). IsIn j js) one new.1.among) where
         by : IsIn j (job ∷ []) → IsTested l j ⊎ (j ≡ job)
         by (inl is) = inr is
@@ -287,7 +287,7 @@ module _ (q : PeerNo) (piece : List ℕ) (l : Log) (told : TestResults) (paid : 
   clean_now block hash is t = clean_of block hash (hit block hash) refl is t
 
 pub one_tested : (q : PeerNo) (piece : List ℕ) (l : Log) (told : TestResults) (paid : Paid) (job : Job) → HoldsTests l told → AreClean l paid told → HoldsOutputs l paid → IsTest l q.0 job.block.0
-    → given (counted_part (Took (Got q piece) ∷ l) q.0) ≡ job ∷ given (counted_part l q.0)
+    → given_filters (counted_part (Took (Got q piece) ∷ l) q.0) ≡ job ∷ given_filters (counted_part l q.0)
     → HoldsTests (Took (Got q piece) ∷ l) (with_found paid job told) × AreClean (Took (Got q piece) ∷ l) paid (with_found paid job told)
 one_tested q piece l told paid job k clean outputs test given_is =
     (tests_now q piece l told paid job k clean outputs test given_is, clean_now q piece l told paid job k clean outputs test given_is)
@@ -300,7 +300,7 @@ outputs_stay e l paid none h = record {
   complete = λ hash is got. h.complete hash is (got.0, same_fetched (e ∷ l) l none got.0 got.1, got.2);
 }
 
-pub outputs_grow : (p : PeerNo) (piece : List ℕ) (l : Log) (paid : Paid) (b : Block) → fetched (counted_part (Took (Got p piece) ∷ l) p.0) ≡ b ∷ fetched (counted_part l p.0) → HoldsOutputs l paid
+pub outputs_grow : (p : PeerNo) (piece : List ℕ) (l : Log) (paid : Paid) (b : Block) → fetched_blocks (counted_part (Took (Got p piece) ∷ l) p.0) ≡ b ∷ fetched_blocks (counted_part l p.0) → HoldsOutputs l paid
     → HoldsOutputs (Took (Got p piece) ∷ l) (put_outputs (block_hash_of b.header) (output_items_of b) paid)
 outputs_grow p piece l paid b brings h = record {
   sound = λ hash items is. sound_of hash items (same (block_hash_of b.header) hash) (paid hash) refl refl is;

@@ -12,7 +12,7 @@ use Rattle.cf_wires.specs.declared.event.Event.{Event}
 use Rattle.cf_wires.specs.declared.event.Event.TheVariants.{Took}
 use Rattle.cf_wires.specs.Log.{Log}
 use Rattle.cf_peer.specs.Trail.{Part}
-use Rattle.cf_peer.specs.Asking.{counted, fetched}
+use Rattle.cf_peer.specs.Asking.{counted, fetched_blocks}
 use Rattle.cf_scan.specs.declared.extracts.TxExtract.{TxExtract}
 use Rattle.cf_scan.specs.Extract.{extract_of}
 use Rattle.cf_tables.specs.Tables.{with_blocks, IsSameTable}
@@ -71,12 +71,12 @@ missing_in watch (c ∷ blocks) table hash is = elim (cases_same (block_hash_of 
 ]
 
 -- where a later log has these blocks more of one peer, and of the others the same, the table is to get their extracts
-pub grown_holds : (watch : List (List ℕ)) (log later : Log) (p : ℕ) (news : List Block) (before after : ExtractTable) → fetched (counted_part later p) ≡ news ++ fetched (counted_part log p)
-    → ((q : ℕ) → (p == q) ≡ false → fetched (counted_part later q) ≡ fetched (counted_part log q)) → IsSameTable after (with_blocks watch news before)
+pub grown_holds : (watch : List (List ℕ)) (log later : Log) (p : ℕ) (news : List Block) (before after : ExtractTable) → fetched_blocks (counted_part later p) ≡ news ++ fetched_blocks (counted_part log p)
+    → ((q : ℕ) → (p == q) ≡ false → fetched_blocks (counted_part later q) ≡ fetched_blocks (counted_part log q)) → IsSameTable after (with_blocks watch news before)
     → HoldsFetched watch log before → HoldsFetched watch later after
 grown_holds watch log later p news before after brings others same holds = record {
   sound = λ hash e is. elim (found_in watch news before hash e (sym (same hash) ∙ is)) [
-    | inl w ↦ (w.0, (p, subst (λ (bs : List Block). IsIn w.0 bs) (sym brings) (in_left w.0 news (fetched (counted_part log p)) w.1)), w.2, w.3)
+    | inl w ↦ (w.0, (p, subst (λ (bs : List Block). IsIn w.0 bs) (sym brings) (in_left w.0 news (fetched_blocks (counted_part log p)) w.1)), w.2, w.3)
     | inr old ↦ (let w = holds.sound hash e old in (w.0, stays w.0 w.1, w.2, w.3))
   ];
   complete = λ hash is got.
@@ -89,8 +89,8 @@ grown_holds watch log later p news before after brings others same holds = recor
   stays : (b : Block) → IsFetched log b → IsFetched later b
   stays b got = elim (cases_Bool (p == got.0)) [
     | inl is ↦ (
-        let mine : IsIn b (fetched (counted_part log p)) = subst (λ (k : ℕ). IsIn b (fetched (counted_part log k))) (sym (eqb-true p got.0 is)) got.1 in
-        (p, subst (λ (bs : List Block). IsIn b bs) (sym brings) (in_right b news (fetched (counted_part log p)) mine))
+        let mine : IsIn b (fetched_blocks (counted_part log p)) = subst (λ (k : ℕ). IsIn b (fetched_blocks (counted_part log k))) (sym (eqb-true p got.0 is)) got.1 in
+        (p, subst (λ (bs : List Block). IsIn b bs) (sym brings) (in_right b news (fetched_blocks (counted_part log p)) mine))
         )
     | inr off ↦ (got.0, subst (λ (bs : List Block). IsIn b bs) (sym (others got.0 off)) got.1)
   ]
@@ -98,8 +98,8 @@ grown_holds watch log later p news before after brings others same holds = recor
   comes : (b : Block) → IsFetched later b → IsFetched log b ⊎ IsIn b news
   comes b got = elim (cases_Bool (p == got.0)) [
     | inl is ↦ (
-        let mine : IsIn b (fetched (counted_part later p)) = subst (λ (k : ℕ). IsIn b (fetched (counted_part later k))) (sym (eqb-true p got.0 is)) got.1 in
-        elim (in_either b news (fetched (counted_part log p)) (subst (λ (bs : List Block). IsIn b bs) brings mine)) [ inl new ↦ inr new | inr old ↦ inl (p, old) ]
+        let mine : IsIn b (fetched_blocks (counted_part later p)) = subst (λ (k : ℕ). IsIn b (fetched_blocks (counted_part later k))) (sym (eqb-true p got.0 is)) got.1 in
+        elim (in_either b news (fetched_blocks (counted_part log p)) (subst (λ (bs : List Block). IsIn b bs) brings mine)) [ inl new ↦ inr new | inr old ↦ inl (p, old) ]
         )
     | inr off ↦ inl (got.0, subst (λ (bs : List Block). IsIn b bs) (others got.0 off) got.1)
   ]
@@ -110,8 +110,8 @@ holds_without watch e log table none holds = same_holds watch log (e ∷ log) ta
 
 -- a piece
 pub holds_after_piece : (watch : List (List ℕ)) (p : PeerNo) (piece : List ℕ) (log : Log) (news : List Block) (before after : ExtractTable)
-    → fetched (counted_part (Took (Got p piece) ∷ log) p.0) ≡ news ++ fetched (counted_part log p.0) → IsSameTable after (with_blocks watch news before)
+    → fetched_blocks (counted_part (Took (Got p piece) ∷ log) p.0) ≡ news ++ fetched_blocks (counted_part log p.0) → IsSameTable after (with_blocks watch news before)
     → HoldsFetched watch log before → HoldsFetched watch (Took (Got p piece) ∷ log) after
 holds_after_piece watch p piece log news before after brings same holds =
     grown_holds watch log (Took (Got p piece) ∷ log) p.0 news before after brings
-    (λ q off. ap (λ (part : Part). fetched (counted part.trail)) (piece_of_another p piece log q off)) same holds
+    (λ q off. ap (λ (part : Part). fetched_blocks (counted part.trail)) (piece_of_another p piece log q off)) same holds

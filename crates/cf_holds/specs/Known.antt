@@ -14,7 +14,7 @@ use Rattle.cf_scan.specs.declared.extracts.TxExtract.{TxExtract}
 use Rattle.cf_scan.specs.Extract.{extract_of}
 use Rattle.cf_peer.specs.Asking.{claims, counted, request}
 use Rattle.cf_wires.specs.Log.{Log}
-use Rattle.cf_peer.specs.Trail.{Trail, trail, connected}
+use Rattle.cf_peer.specs.Trail.{Trail, trail, is_connected}
 use Rattle.cf_sync.specs.Fetching.{IsFetched, IsFetchedHash, IsGiven, IsGivenWith, IsOmission, IsTestedWith, blocks_open, filters_open}
 use Rattle.cf_seek.specs.Opens.{Opens}
 use Rattle.cf_tables.specs.Known.{ExtractTable, TestResults}
@@ -26,7 +26,7 @@ pub record HoldsFetched (watch : List (List ℕ)) (log : Log) (table : ExtractTa
 
 -- what is kept of a peer's claims: what counts of them, while it is connected
 abbrev pub claims_kept : Trail → dispute.Table
-claims_kept t = if connected t then claims (counted t) else no_claims
+claims_kept t = if is_connected t then claims (counted t) else no_claims
 
 -- these tables hold what counts of the connected peers' claims, and nothing else
 abbrev pub HoldsClaims : Log → Tables → Type 0
@@ -39,10 +39,10 @@ pub record HoldsGiven (watch : List (List ℕ)) (log : Log) (verdicts : Verdicts
 
 -- what is kept of the requests that are open to a peer is what stands in them, while it is connected
 pub record OpensAt (opens : Opens) (p : ℕ) (t : Trail) : Type 0 where
-  pub filters : (block : Hash) → opens.filters p block ≡ true → (connected t ≡ true) × IsIn block (filters_open (request t))
-  pub all_filters : (block : Hash) → connected t ≡ true → IsIn block (filters_open (request t)) → opens.filters p block ≡ true
-  pub blocks : (block : Hash) → opens.blocks p block ≡ true → (connected t ≡ true) × IsIn block (blocks_open (request t))
-  pub all_blocks : (block : Hash) → connected t ≡ true → IsIn block (blocks_open (request t)) → opens.blocks p block ≡ true
+  pub filters : (block : Hash) → opens.filters p block ≡ true → (is_connected t ≡ true) × IsIn block (filters_open (request t))
+  pub all_filters : (block : Hash) → is_connected t ≡ true → IsIn block (filters_open (request t)) → opens.filters p block ≡ true
+  pub blocks : (block : Hash) → opens.blocks p block ≡ true → (is_connected t ≡ true) × IsIn block (blocks_open (request t))
+  pub all_blocks : (block : Hash) → is_connected t ≡ true → IsIn block (blocks_open (request t)) → opens.blocks p block ≡ true
 
 -- so it is kept of each peer
 abbrev pub HoldsOpens : Log → Opens → Type 0

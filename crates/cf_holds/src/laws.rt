@@ -13,7 +13,7 @@ ghost use Rattle.cf_wires.specs.declared.event.Event.TheVariants.{Took};
 ghost use Rattle.cf_match.specs.declared.job.Job.{Job};
 ghost use Rattle.cf_peer.specs.declared.mode.Mode.TheVariants.{Following};
 ghost use Rattle.cf_wires.specs.Log.{Log};
-ghost use Rattle.cf_peer.specs.{part_of, trail, connected, own, BlockOpen, FiltersOpen, NothingOpen, block_entry, claims, fetched, given, request};
+ghost use Rattle.cf_peer.specs.{part_of, trail, is_connected, own, BlockOpen, FiltersOpen, NothingOpen, block_entry, claims, fetched_blocks, given_filters, request};
 ghost use Rattle.cf_peer.specs.Trail.{Trail};
 ghost use Rattle.cf_scan.specs.{history_of};
 ghost use Rattle.cf_tables.specs.{IsSameTable, placed_by, with_blocks, ExtractTable, TestResults, Paid, TrialsGo, judged_if, IsDone, IsToFetch, IsUnjudged};
@@ -39,8 +39,8 @@ pub fn a_table_grows()
     ensures kept { (watch : List (List ℕ)) (e : Event) (log : Log) (table : ExtractTable) → IsNoPiece e
         → HoldsFetched watch log table → HoldsFetched watch (e ∷ log) table }
     ensures grown { (watch : List (List ℕ)) (p : PeerNo) (piece : List ℕ) (log : Log)
-        (news : List Block) (before after : ExtractTable) → fetched (counted_part (Took (Got p piece) ∷ log) p.0)
-        ≡ news ++ fetched (counted_part log p.0) → IsSameTable after (with_blocks watch news before)
+        (news : List Block) (before after : ExtractTable) → fetched_blocks (counted_part (Took (Got p piece) ∷ log) p.0)
+        ≡ news ++ fetched_blocks (counted_part log p.0) → IsSameTable after (with_blocks watch news before)
         → HoldsFetched watch log before → HoldsFetched watch (Took (Got p piece) ∷ log) after }
 {}
 
@@ -97,14 +97,14 @@ pub fn what_is_kept_of_open_requests_goes_on()
     ensures put { (log next : Log) (before after : Opens) (p : ℕ) → HoldsOpens log before → IsSameElse before after p
         → ((q : ℕ) → q ≢ p → trail next q ≡ trail log q) → OpensAt after p (trail next p) → HoldsOpens next after }
     ensures filters { (before after : Opens) (p : ℕ) (t u : Trail) (asked : List (List ℕ)) → OpensAt before p t
-        → request t ≡ NothingOpen → OpensFilters before after p asked → connected u ≡ true
+        → request t ≡ NothingOpen → OpensFilters before after p asked → is_connected u ≡ true
         → request u ≡ FiltersOpen asked [] → OpensAt after p u }
     ensures block { (before after : Opens) (p : ℕ) (t u : Trail) (asked : List ℕ) → OpensAt before p t
-        → request t ≡ NothingOpen → OpensBlock before after p asked → connected u ≡ true → request u ≡ BlockOpen asked
+        → request t ≡ NothingOpen → OpensBlock before after p asked → is_connected u ≡ true → request u ≡ BlockOpen asked
         → OpensAt after p u }
     ensures closed { (before after : Opens) (p : ℕ) (u : Trail) → Closes before after p
-        → (connected u ≡ true → request u ≡ NothingOpen) → OpensAt after p u }
-    ensures same { (opens : Opens) (p : ℕ) (t u : Trail) → OpensAt opens p t → connected u ≡ connected t
+        → (is_connected u ≡ true → request u ≡ NothingOpen) → OpensAt after p u }
+    ensures same { (opens : Opens) (p : ℕ) (t u : Trail) → OpensAt opens p t → is_connected u ≡ is_connected t
         → ((b : List ℕ) → IsIn b (filters_open (request u)) → IsIn b (filters_open (request t)))
         → ((b : List ℕ) → IsIn b (filters_open (request t)) → IsIn b (filters_open (request u)))
         → ((b : List ℕ) → IsIn b (blocks_open (request u)) → IsIn b (blocks_open (request t)))
@@ -136,12 +136,12 @@ pub fn what_is_kept_of_tests_goes_on()
         → HoldsTrials (e ∷ log) trials }
     ensures piece { (p : PeerNo)
         (piece : List ℕ) (log : Log) (before after : Trials) (news : List Block) (jobs : List Job)
-        → fetched (counted_part (Took (Got p piece) ∷ log) p.0) ≡ news ++ fetched (counted_part log p.0)
-        → given (counted_part (Took (Got p piece) ∷ log) p.0) ≡ jobs ++ given (counted_part log p.0)
+        → fetched_blocks (counted_part (Took (Got p piece) ∷ log) p.0) ≡ news ++ fetched_blocks (counted_part log p.0)
+        → given_filters (counted_part (Took (Got p piece) ∷ log) p.0) ≡ jobs ++ given_filters (counted_part log p.0)
         → TrialsGo before after p.0 news jobs → HoldsTrials log before → HoldsTrials (Took (Got p piece) ∷ log) after }
     ensures verdicts { (p : PeerNo) (piece : List ℕ)
         (log : Log) (watch : List (List ℕ)) (trials : Trials) (before after : Verdicts) (jobs : List Job)
-        → given (counted_part (Took (Got p piece) ∷ log) p.0) ≡ jobs ++ given (counted_part log p.0)
+        → given_filters (counted_part (Took (Got p piece) ∷ log) p.0) ≡ jobs ++ given_filters (counted_part log p.0)
         → AreSameVerdicts after (judged_if (trials.aims p.0) watch jobs before) → HoldsTrials log trials
         → HoldsGiven watch log before → HoldsGiven watch (Took (Got p piece) ∷ log) after }
     ensures clean { (log : Log) (paid : Paid) (told : TestResults) → RightlyIn Following log → HoldsOutputs log paid

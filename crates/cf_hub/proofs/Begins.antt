@@ -3,7 +3,7 @@ use Rattle.std.proofs.Common.{◌≡◌, ℕ, Bool, true, false, true≢false, L
 use Rattle.std.proofs.lemmas.List.{map-append}
 use Rattle.cf_wires.specs.Log.{Log, Tally, Told, Tells, deliveries}
 use Rattle.cf_tasks.specs.declared.entry.Item.{Item}
-use Rattle.cf_outside.specs.declared.entry.Kind.{Kind}
+use Rattle.cf_outside.specs.declared.entry.EntryKind.{EntryKind}
 use Rattle.cf_outside.specs.declared.reader.Reader.{Reader}
 use Rattle.cf_hub.specs.Finish.{begun}
 use Rattle.cf_hub.specs.Gives.{given_of, LogGives}
@@ -16,7 +16,7 @@ pub no_some : {X : Type 0} (x : X) → Some x ≡ None → ⊥
 no_some x e = true≢false (ap is_there e)
 
 -- nothing has passed
-pub nothing_log : (t : Told) (got : List (Item Kind)) → Tells [] t → LogGives t got
+pub nothing_log : (t : Told) (got : List (Item EntryKind)) → Tells [] t → LogGives t got
 nothing_log t got n = λ log is.
     let Q : Option Log → Type 0 = λ o. IfSome o (λ l. l ≡ []) in
     let e : log ≡ [] = subst Q is n.content in

@@ -12,17 +12,17 @@ use Rattle.cf_wires.specs.Log.{Log, Told, deliveries, with_delivery, is_real, te
 use Rattle.cf_tasks.specs.declared.entry.Item.{Item}
 use Rattle.cf_tasks.specs.Queue.{of, entry, IsStart}
 use Rattle.cf_tasks.proofs.Moves.{of_append}
-use Rattle.cf_outside.specs.declared.entry.Kind.{Kind}
-use Rattle.cf_outside.specs.declared.entry.Kind.TheVariants as kinds
+use Rattle.cf_outside.specs.declared.entry.EntryKind.{EntryKind}
+use Rattle.cf_outside.specs.declared.entry.EntryKind.TheVariants as kinds
 use Rattle.cf_outside.specs.Pieces.{bytes_of, joined, is_last, is_open}
 use Rattle.cf_outside.specs.Ticks.{seconds_of, ticks}
 use Rattle.cf_hub.specs.Gives.{delivery_of, given_of, LogGives, piece_in, pieces_of, is_gone_of, has_gone, tick_in, ticks_of, IsFront}
 
-pub given-append : (xs ys : List (Item Kind)) → given_of (xs ++ ys) ≡ given_of xs ++ given_of ys
+pub given-append : (xs ys : List (Item EntryKind)) → given_of (xs ++ ys) ≡ given_of xs ++ given_of ys
 given-append [] ys = refl
 given-append (x ∷ xs) ys = ap (λ l. delivery_of x.from x.kind ++ l) (given-append xs ys) ∙ sym (append_assoc (delivery_of x.from x.kind) (given_of xs) (given_of ys))
 
-pub given_more : (got : List (Item Kind)) (p : ℕ) (k : Kind) → given_of (got ++ entry p k ∷ []) ≡ given_of got ++ delivery_of p k
+pub given_more : (got : List (Item EntryKind)) (p : ℕ) (k : EntryKind) → given_of (got ++ entry p k ∷ []) ≡ given_of got ++ delivery_of p k
 given_more got p k = given-append got (entry p k ∷ []) ∙ ap (λ l. given_of got ++ l) (append-nil (delivery_of p k))
 
 pub front_start : {X : Type 0} (xs ys : List X) → IsFront xs ys → IsStart xs ys
@@ -32,7 +32,7 @@ pub start_front : {X : Type 0} (xs ys : List X) → IsStart xs ys → IsFront xs
 start_front xs ys s = ap (take (length xs)) s.1 ∙ take-append_seam xs s.0
 
 -- a told log's deliveries stay the first ones as more is received
-pub log_waits : (t : Told) (got : List (Item Kind)) (e : Item Kind) → t.tally.taken ≤ length (given_of got) → LogGives t got → LogGives t (got ++ e ∷ [])
+pub log_waits : (t : Told) (got : List (Item EntryKind)) (e : Item EntryKind) → t.tally.taken ≤ length (given_of got) → LogGives t got → LogGives t (got ++ e ∷ [])
 log_waits t got e w h = λ log is. h log is ∙ sym (ap (take t.tally.taken) (given-append got (e ∷ [])) ∙ take-append-le t.tally.taken (given_of got) (given_of (e ∷ [])) w)
 
 with_real : (d : Delivery) (ds : List Delivery) → is_real d ≡ true → with_delivery d ds ≡ ds ++ d ∷ []
@@ -60,7 +60,7 @@ log_inside e (Some l) log q = (l, refl, sym (ap inner q))
     inner (Some m) = m
 
 -- one delivery more is given
-pub log_grows : (t : Told) (got got' : List (Item Kind)) (d : Delivery) → is_real d ≡ true → given_of got' ≡ given_of got ++ d ∷ []
+pub log_grows : (t : Told) (got got' : List (Item EntryKind)) (d : Delivery) → is_real d ≡ true → given_of got' ≡ given_of got ++ d ∷ []
     → t.tally.taken ≡ length (given_of got) → LogGives t got → LogGives (tell (Took d) t) got'
 log_grows t got got' d r g n h = λ log is.
     let x = log_inside (Took d) t.log log is in
@@ -70,15 +70,15 @@ log_grows t got got' d r g n h = λ log is.
     let was : deliveries x.0 ≡ given_of got = h x.0 x.1 ∙ ap (λ k. take k (given_of got)) n ∙ take-length (given_of got) in
     ap deliveries x.2 ∙ with_real d (deliveries x.0) r ∙ ap (λ l. l ++ d ∷ []) was ∙ sym (ap (λ k. take k (given_of got')) (taken_more d t r) ∙ all)
 
-pub count_grows : (t : Told) (got got' : List (Item Kind)) (d : Delivery) → is_real d ≡ true → given_of got' ≡ given_of got ++ d ∷ []
+pub count_grows : (t : Told) (got got' : List (Item EntryKind)) (d : Delivery) → is_real d ≡ true → given_of got' ≡ given_of got ++ d ∷ []
     → t.tally.taken ≡ length (given_of got) → (tell (Took d) t).tally.taken ≡ length (given_of got')
 count_grows t got got' d r g n = taken_more d t r ∙ ap (λ k. k + 1) n ∙ sym (ap length g ∙ length-append (given_of got) (d ∷ []))
 
 -- the end is no delivery
-pub log_ends : (t : Told) (got : List (Item Kind)) → LogGives t got → LogGives (tell (Took gives.Ended) t) got
+pub log_ends : (t : Told) (got : List (Item EntryKind)) → LogGives t got → LogGives (tell (Took gives.Ended) t) got
 log_ends t got h = λ log is. let x = log_inside (Took gives.Ended) t.log log is in ap deliveries x.2 ∙ h x.0 x.1
 
-at_most : (p : ℕ) (i : Kind) → length (delivery_of p i) ≤ 1
+at_most : (p : ℕ) (i : EntryKind) → length (delivery_of p i) ≤ 1
 at_most zero (kinds.Got b) = omega arith
 at_most zero (kinds.Tick s) = omega arith
 at_most zero kinds.Last = omega arith
@@ -87,10 +87,10 @@ at_most (suc p) (kinds.Tick s) = omega arith
 at_most (suc p) kinds.Last = omega arith
 
 -- of the first deliveries, whose entries they are
-abbrev Cut : ℕ → List (Item Kind) → Type 0
-Cut k es = (front : List (Item Kind)) × (rest : List (Item Kind)) × (es ≡ front ++ rest) × (take k (given_of es) ≡ given_of front)
+abbrev Cut : ℕ → List (Item EntryKind) → Type 0
+Cut k es = (front : List (Item EntryKind)) × (rest : List (Item EntryKind)) × (es ≡ front ++ rest) × (take k (given_of es) ≡ given_of front)
 
-cut_one : (k : ℕ) (e : Item Kind) (es : List (Item Kind)) (ds : List Delivery) → delivery_of e.from e.kind ≡ ds → length ds ≤ 1 → Cut (suc k) es → Cut k es → Cut (suc k) (e ∷ es)
+cut_one : (k : ℕ) (e : Item EntryKind) (es : List (Item EntryKind)) (ds : List Delivery) → delivery_of e.from e.kind ≡ ds → length ds ≤ 1 → Cut (suc k) es → Cut k es → Cut (suc k) (e ∷ es)
 cut_one k e es [] q l c c' = (
   e ∷ c.0,
   c.1,
@@ -105,7 +105,7 @@ cut_one k e es (d ∷ []) q l c c' = (
 )
 cut_one k e es (d ∷ f ∷ ds) q l c c' = absurd (omega (arith, l))
 
-pub cut : (k : ℕ) (es : List (Item Kind)) → Cut k es
+pub cut : (k : ℕ) (es : List (Item EntryKind)) → Cut k es
 cut zero es = ([], es, refl, refl)
 cut (suc k) [] = ([], [], refl, refl)
 cut (suc k) (e ∷ es) = cut_one k e es (delivery_of e.from e.kind) refl (at_most e.from e.kind) (cut (suc k) es) (cut k es)
@@ -127,7 +127,7 @@ gone-append p (x ∷ xs) ys = ap (λ b. is_gone_of p x || b) (gone-append p xs y
     either false b c = refl
 
 -- one entry gives of a peer what is received of it
-one_given : (p q : ℕ) (k : Kind) → 0 < p → (pieces_of p (delivery_of q k) ≡ joined (of p (entry q k ∷ [])))
+one_given : (p q : ℕ) (k : EntryKind) → 0 < p → (pieces_of p (delivery_of q k) ≡ joined (of p (entry q k ∷ [])))
     × (has_gone p (delivery_of q k) ≡ not (is_open (of p (entry q k ∷ []))))
 one_given p zero (kinds.Got b) l = (grind (arith, nat_tests, common_steps), grind (arith, nat_tests, common_steps))
 one_given p zero (kinds.Tick s) l = (grind (arith, nat_tests, common_steps), grind (arith, nat_tests, common_steps))
@@ -136,12 +136,12 @@ one_given p (suc q) (kinds.Got b) l = (grind (arith, nat_tests, common_steps), g
 one_given p (suc q) (kinds.Tick s) l = (grind (arith, nat_tests, common_steps), grind (arith, nat_tests, common_steps))
 one_given p (suc q) kinds.Last l = (grind (arith, nat_tests, common_steps), grind (arith, nat_tests, common_steps))
 
-joined-append : (xs ys : List (Item Kind)) → joined (xs ++ ys) ≡ joined xs ++ joined ys
+joined-append : (xs ys : List (Item EntryKind)) → joined (xs ++ ys) ≡ joined xs ++ joined ys
 joined-append [] ys = refl
 joined-append (x ∷ xs) ys = ap (λ l. bytes_of x.kind ++ l) (joined-append xs ys) ∙ sym (append_assoc (bytes_of x.kind) (joined xs) (joined ys))
 
 -- the pieces given of a peer are those that were received of it
-pub pieces_given : (p : ℕ) → 0 < p → (es : List (Item Kind)) → pieces_of p (given_of es) ≡ joined (of p es)
+pub pieces_given : (p : ℕ) → 0 < p → (es : List (Item EntryKind)) → pieces_of p (given_of es) ≡ joined (of p es)
 pieces_given p l [] = refl
 pieces_given p l (e ∷ es) =
     pieces-append p (delivery_of e.from e.kind) (given_of es)
@@ -149,11 +149,11 @@ pieces_given p l (e ∷ es) =
     ∙ ap (λ x. joined (of p (e ∷ [])) ++ x) (pieces_given p l es)
     ∙ sym (ap joined (of_append p (e ∷ []) es) ∙ joined-append (of p (e ∷ [])) (of p es))
 
-all_ticks-append : (xs ys : List (Item Kind)) → ticks (xs ++ ys) ≡ ticks xs ++ ticks ys
+all_ticks-append : (xs ys : List (Item EntryKind)) → ticks (xs ++ ys) ≡ ticks xs ++ ticks ys
 all_ticks-append [] ys = refl
 all_ticks-append (x ∷ xs) ys = ap (λ l. seconds_of x.kind ++ l) (all_ticks-append xs ys) ∙ sym (append_assoc (seconds_of x.kind) (ticks xs) (ticks ys))
 
-one_tick : (q : ℕ) (k : Kind) → ticks_of (delivery_of q k) ≡ ticks (of 0 (entry q k ∷ []))
+one_tick : (q : ℕ) (k : EntryKind) → ticks_of (delivery_of q k) ≡ ticks (of 0 (entry q k ∷ []))
 one_tick zero (kinds.Got b) = refl
 one_tick zero (kinds.Tick s) = refl
 one_tick zero kinds.Last = refl
@@ -162,7 +162,7 @@ one_tick (suc q) (kinds.Tick s) = grind (arith, nat_tests, common_steps)
 one_tick (suc q) kinds.Last = grind (arith, nat_tests, common_steps)
 
 -- the ticks given are those that were received of the ticker
-pub ticks_given : (es : List (Item Kind)) → ticks_of (given_of es) ≡ ticks (of 0 es)
+pub ticks_given : (es : List (Item EntryKind)) → ticks_of (given_of es) ≡ ticks (of 0 es)
 ticks_given [] = refl
 ticks_given (e ∷ es) =
     ticks-append (delivery_of e.from e.kind) (given_of es)
@@ -170,7 +170,7 @@ ticks_given (e ∷ es) =
     ∙ ap (λ x. ticks (of 0 (e ∷ [])) ++ x) (ticks_given es)
     ∙ sym (ap ticks (of_append 0 (e ∷ []) es) ∙ all_ticks-append (of 0 (e ∷ [])) (of 0 es))
 
-open-append : (xs ys : List (Item Kind)) → is_open (xs ++ ys) ≡ (is_open xs && is_open ys)
+open-append : (xs ys : List (Item EntryKind)) → is_open (xs ++ ys) ≡ (is_open xs && is_open ys)
 open-append [] ys = refl
 open-append (x ∷ xs) ys = ap (λ b. not (is_last x.kind) && b) (open-append xs ys) ∙ both (not (is_last x.kind)) (is_open xs) (is_open ys)
   where
@@ -179,7 +179,7 @@ open-append (x ∷ xs) ys = ap (λ b. not (is_last x.kind) && b) (open-append xs
     both false b c = refl
 
 -- that a peer has gone is given where its last entry was received
-pub gone_given : (p : ℕ) → 0 < p → (es : List (Item Kind)) → has_gone p (given_of es) ≡ not (is_open (of p es))
+pub gone_given : (p : ℕ) → 0 < p → (es : List (Item EntryKind)) → has_gone p (given_of es) ≡ not (is_open (of p es))
 gone_given p l [] = refl
 gone_given p l (e ∷ es) =
     gone-append p (delivery_of e.from e.kind) (given_of es)
@@ -196,8 +196,8 @@ start_chain : {X : Type 0} (xs ys zs : List X) → IsStart xs ys → IsStart ys 
 start_chain xs ys zs s t = (s.0 ++ t.0, t.1 ∙ ap (λ l. l ++ t.0) s.1 ∙ append_assoc xs s.0 t.0)
 
 -- what the first deliveries give of p is of a beginning of what p's reader sent
-pub cut_of : (p k : ℕ) (got sent : List (Item Kind)) → IsFront (of p got) sent
-    → (front : List (Item Kind)) × (IsStart (of p front) sent) × (take k (given_of got) ≡ given_of front)
+pub cut_of : (p k : ℕ) (got sent : List (Item EntryKind)) → IsFront (of p got) sent
+    → (front : List (Item EntryKind)) × (IsStart (of p front) sent) × (take k (given_of got) ≡ given_of front)
 cut_of p k got sent f =
     let c = cut k got in
     (c.0, start_chain (of p c.0) (of p got) sent (of p c.1, ap (of p) c.2 ∙ of_append p c.0 c.1) (front_start (of p got) sent f), c.3)

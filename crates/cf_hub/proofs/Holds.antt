@@ -10,14 +10,14 @@ use Rattle.cf_tasks.specs.declared.entry.Item.{Item}
 use Rattle.cf_tasks.specs.declared.ends.Queue.{Queue}
 use Rattle.cf_tasks.specs.declared.ends.Sender.{Sender}
 use Rattle.cf_tasks.specs.Queue.{of}
-use Rattle.cf_outside.specs.declared.entry.Kind.{Kind}
+use Rattle.cf_outside.specs.declared.entry.EntryKind.{EntryKind}
 use Rattle.cf_outside.specs.declared.outside.Dialer.{Ghosts as OfDialer}
 use Rattle.cf_outside.specs.declared.outside.Writer.{Ghosts as OfWriter}
 use Rattle.cf_hub.specs.Book.{told_of}
 use Rattle.cf_hub.specs.Finish.{numbers_of, read_numbers, Fronts}
 use Rattle.cf_hub.specs.Gives.{given_of, LogGives, IsFront}
 use Rattle.cf_hub.specs.Lines.{Down, IsTickers, Waits}
-use Rattle.cf_hub.specs.Over.{Heard, HaveEnded, connected, numbers_from}
+use Rattle.cf_hub.specs.Over.{Heard, HaveEnded, connections, numbers_from}
 use Rattle.cf_hub.specs.Writers.{AreOpen}
 use Rattle.cf_wires.specs.declared.event.Event.TheVariants.{NotDialled}
 use Rattle.cf_wires.specs.Log.{Told, tell}
@@ -65,12 +65,12 @@ module _ {D P R S W : Type 0} {d : OfDialer D S W} {w : OfWriter W} {k : OfSink 
     runs : h.joined ≡ false → h.clock ≡ None → IsSome h.ticking;
     owed : h.joined ≡ true → h.clock ≡ None → IsSome h.rested;
     stopped : h.joined ≡ true → h.book.finished ≡ true;
-    over : h.joined ≡ true → HaveEnded (connected h.writers.items) (view h.queue.seat).got;
+    over : h.joined ≡ true → HaveEnded (connections h.writers.items) (view h.queue.seat).got;
     fronts : Fronts (view h.queue.seat).got h.done.items;
     beats : ForSome h.rested (λ r. IsFront (of 0 (view h.queue.seat).got) r.sent);
     unshut : h.book.finished ≡ false → AreOpen w.was_shut h.book.closed h.writers.items;
-    reading_are : h.joined ≡ false → numbers_of h.reading.items ≡ numbers_from 0 (connected h.writers.items);
-    done_are : h.joined ≡ true → read_numbers h.done.items ≡ numbers_from 0 (connected h.writers.items);
+    reading_are : h.joined ≡ false → numbers_of h.reading.items ≡ numbers_from 0 (connections h.writers.items);
+    done_are : h.joined ≡ true → read_numbers h.done.items ≡ numbers_from 0 (connections h.writers.items);
   }
 
   pub all_hold : (h : Hub D P R S W d w k) → Holds h
@@ -102,7 +102,7 @@ module _ {D P R S W : Type 0} {d : OfDialer D S W} {w : OfWriter W} {k : OfSink 
   }
 
   -- what its queue has received
-  abbrev pub got_of : Hub D P R S W d w k → List (Item Kind)
+  abbrev pub got_of : Hub D P R S W d w k → List (Item EntryKind)
   got_of h = (view h.queue.seat).got
 
   -- with a book that has noted no dial and no delivery
@@ -131,14 +131,14 @@ module _ {D P R S W : Type 0} {d : OfDialer D S W} {w : OfWriter W} {k : OfSink 
   -- with a book that tells something more, and counts as much
   abbrev pub told_more : (h : Hub D P R S W d w k) (b : HubLog) (t : Told) → told_of b ≡ t → t.tally.dials ≡ h.book.dials
       → t.tally.taken ≡ h.book.taken → t.tally.closed ≡ h.book.closed → t.finished ≡ h.book.finished
-      → ((got : List (Item Kind)) → LogGives (told_of h.book) got → LogGives (told_of b) got) → Hub D P R S W d w k
+      → ((got : List (Item EntryKind)) → LogGives (told_of h.book) got → LogGives (told_of b) got) → Hub D P R S W d w k
   told_more h b t told d n c f log =
       let m = counts_of b t told in
       noted_same h b (m.dials ∙ d) (m.taken ∙ n) (m.closed ∙ c) (m.finished ∙ f) (log (got_of h) h.gives)
 
   -- with writers in the same places, and open where they were
   abbrev pub rewritten : (h : Hub D P R S W d w k) (ws : Vec (Option W) Global) → vec_len ws ≡ vec_len h.writers
-      → vec_capacity ws ≡ vec_capacity h.writers → connected ws.items ≡ connected h.writers.items
+      → vec_capacity ws ≡ vec_capacity h.writers → connections ws.items ≡ connections h.writers.items
       → (h.book.finished ≡ false → AreOpen w.was_shut h.book.closed ws.items) → Hub D P R S W d w k
   rewritten h ws len capacity there unshut = record h {
     writers = ws;
@@ -151,12 +151,12 @@ module _ {D P R S W : Type 0} {d : OfDialer D S W} {w : OfWriter W} {k : OfSink 
   }
 
   -- with a queue of the same line, and a book that has noted what was received
-  abbrev pub received : (h : Hub D P R S W d w k) (q : Queue Kind) (gone : List Bool) (b : HubLog)
+  abbrev pub received : (h : Hub D P R S W d w k) (q : Queue EntryKind) (gone : List Bool) (b : HubLog)
       → sends_on q.line ≡ sends_on h.queue.line → Heard gone (view q.seat).got
       → b.dials ≡ h.book.dials → b.closed ≡ h.book.closed → b.finished ≡ h.book.finished
       → LogGives (told_of b) (view q.seat).got → b.taken ≤ length (given_of (view q.seat).got)
       → (b.finished ≡ false → b.taken ≡ length (given_of (view q.seat).got))
-      → (h.joined ≡ true → HaveEnded (connected h.writers.items) (view q.seat).got)
+      → (h.joined ≡ true → HaveEnded (connections h.writers.items) (view q.seat).got)
       → Fronts (view q.seat).got h.done.items → ForSome h.rested (λ r. IsFront (of 0 (view q.seat).got) r.sent)
       → Hub D P R S W d w k
   received h q gone b ring heard dn cl fn gives within counts over fronts beats = record h {
@@ -182,7 +182,7 @@ module _ {D P R S W : Type 0} {d : OfDialer D S W} {w : OfWriter W} {k : OfSink 
   }
 
   -- nothing was joined yet
-  abbrev pub received_one : (h : Hub D P R S W d w k) (q : Queue Kind) (gone : List Bool) (b : HubLog) → h.joined ≡ false
+  abbrev pub received_one : (h : Hub D P R S W d w k) (q : Queue EntryKind) (gone : List Bool) (b : HubLog) → h.joined ≡ false
       → sends_on q.line ≡ sends_on h.queue.line → Heard gone (view q.seat).got
       → b.dials ≡ h.book.dials → b.closed ≡ h.book.closed → b.finished ≡ h.book.finished
       → LogGives (told_of b) (view q.seat).got → b.taken ≤ length (given_of (view q.seat).got)
@@ -192,7 +192,7 @@ module _ {D P R S W : Type 0} {d : OfDialer D S W} {w : OfWriter W} {k : OfSink 
       (no_fronts (view q.seat).got _ (h.undone nj)) (none_for _ _ (h.unrested nj))
 
   -- nothing more was received
-  abbrev pub received_none : (h : Hub D P R S W d w k) (q : Queue Kind) → sends_on q.line ≡ sends_on h.queue.line
+  abbrev pub received_none : (h : Hub D P R S W d w k) (q : Queue EntryKind) → sends_on q.line ≡ sends_on h.queue.line
       → (view q.seat).got ≡ got_of h → Hub D P R S W d w k
   received_none h q ring got =
       received h q h.gone h.book ring (same_heard _ _ _ got h.heard) refl refl refl
@@ -201,13 +201,13 @@ module _ {D P R S W : Type 0} {d : OfDialer D S W} {w : OfWriter W} {k : OfSink 
       (moved_fronts _ _ _ got h.fronts) (λ x e. same_front _ _ _ got (h.beats x e))
 
   -- the sender of the next peer has the number that its writer will have
-  pub next_number : (h : Hub D P R S W d w k) (spare : Vec (Sender Kind) Global) (x : Sender Kind)
+  pub next_number : (h : Hub D P R S W d w k) (spare : Vec (Sender EntryKind) Global) (x : Sender EntryKind)
       → Popped h.queue h.spare spare x → x.number ≡ vec_len h.writers
   next_number h spare x p = omega (arith, p.number, p.len, h.numbers, h.places)
 
   -- the next number is passed over: its sender is gone, and it gets no writer
-  abbrev pub passed_over : (h : Hub D P R S W d w k) (spare : Vec (Sender Kind) Global) (ws : Vec (Option W) Global)
-      (b : HubLog) (x : Sender Kind) (p : PeerNo) (name : List ℕ) → Popped h.queue h.spare spare x
+  abbrev pub passed_over : (h : Hub D P R S W d w k) (spare : Vec (Sender EntryKind) Global) (ws : Vec (Option W) Global)
+      (b : HubLog) (x : Sender EntryKind) (p : PeerNo) (name : List ℕ) → Popped h.queue h.spare spare x
       → ws.items ≡ h.writers.items ++ None ∷ [] → vec_len ws ≡ vec_len h.writers + 1
       → vec_capacity ws ≡ vec_capacity h.writers
       → told_of b ≡ tell (NotDialled p name) (told_of h.book) → Hub D P R S W d w k

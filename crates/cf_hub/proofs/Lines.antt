@@ -6,7 +6,7 @@ use Rattle.std.specs.Option.{option_to_list}
 use Rattle.crossbeam_channel.specs.Ends.{sends_on}
 use Rattle.cf_tasks.specs.declared.ends.Queue.{Queue}
 use Rattle.cf_tasks.specs.declared.ends.Sender.{Sender}
-use Rattle.cf_outside.specs.declared.entry.Kind.{Kind}
+use Rattle.cf_outside.specs.declared.entry.EntryKind.{EntryKind}
 use Rattle.cf_outside.specs.declared.reader.Reader.{Reader}
 use Rattle.cf_hub.specs.Lines.{AllAt, IsNew, Down}
 
@@ -58,16 +58,16 @@ module _ {X : Type 0} where
   each_at P Q xs f a = λ k d l. f k (slice_index_or xs k d) (a k d l)
 
 -- what is known of the last of the peers' senders, once it is taken from the others
-pub record Popped (q : Queue Kind) (was now : Vec (Sender Kind) Global) (x : Sender Kind) : Type 0 where
+pub record Popped (q : Queue EntryKind) (was now : Vec (Sender EntryKind) Global) (x : Sender EntryKind) : Type 0 where
   pub rest : Down q now.items
   pub line : sends_on x.line ≡ sends_on q.line
   pub number : x.number + vec_len now ≡ 8
   pub len : vec_len now + 1 ≡ vec_len was
 
-pub down_popped : (q : Queue Kind) (was now : Vec (Sender Kind) Global) (o : Option (Sender Kind)) (x : Sender Kind) → o ≡ Some x
+pub down_popped : (q : Queue EntryKind) (was now : Vec (Sender EntryKind) Global) (o : Option (Sender EntryKind)) (x : Sender EntryKind) → o ≡ Some x
     → was.items ≡ now.items ++ option_to_list o → vec_len now + length (option_to_list o) ≡ vec_len was → Down q was.items → Popped q was now x
 down_popped q was now o x is items len a =
-    let more : List (Sender Kind) → List (Sender Kind) = λ l. now.items ++ l in
+    let more : List (Sender EntryKind) → List (Sender EntryKind) = λ l. now.items ++ l in
     let p = popped (λ k s. (s.number + k ≡ 8) × IsNew q s) was.items now.items x (items ∙ ap more (ap option_to_list is)) a in
     record {
       rest = p.1;
@@ -77,13 +77,13 @@ down_popped q was now o x is items len a =
     }
 
 -- one reader more, which sends on the queue's line
-pub reading_pushed : {S R : Type 0} (q : Queue Kind) (was now : List (Reader S R)) (x : Reader S R) → now ≡ was ++ x ∷ []
+pub reading_pushed : {S R : Type 0} (q : Queue EntryKind) (was now : List (Reader S R)) (x : Reader S R) → now ≡ was ++ x ∷ []
     → All (λ b. (sends_on b.sender.line ≡ sends_on q.line) × (0 < b.sender.number)) was → (sends_on x.sender.line ≡ sends_on q.line) × (0 < x.sender.number)
     → All (λ b. (sends_on b.sender.line ≡ sends_on q.line) × (0 < b.sender.number)) now
 reading_pushed {S = S} {R = R} q was now x e a p = pushed (λ k (b : Reader S R). (sends_on b.sender.line ≡ sends_on q.line) × (0 < b.sender.number)) was now x e a p
 
 -- the same readers, of a queue with the same line
-pub reading_ringed : {S R : Type 0} (q q' : Queue Kind) (was now : List (Reader S R)) → now ≡ was → sends_on q'.line ≡ sends_on q.line
+pub reading_ringed : {S R : Type 0} (q q' : Queue EntryKind) (was now : List (Reader S R)) → now ≡ was → sends_on q'.line ≡ sends_on q.line
     → All (λ b. (sends_on b.sender.line ≡ sends_on q.line) × (0 < b.sender.number)) was → All (λ b. (sends_on b.sender.line ≡ sends_on q'.line) × (0 < b.sender.number)) now
 reading_ringed {S = S} {R = R} q q' was now e r a =
     let Q : List (Reader S R) → Type 0 = All (λ b. (sends_on b.sender.line ≡ sends_on q'.line) × (0 < b.sender.number)) in

@@ -6,11 +6,11 @@ use Rattle.std.proofs.lemmas.List.{map-append}
 use Rattle.std.proofs.lemmas.Option.{get_or_from_slice_get, slice_get_read, slice_get_within}
 use Rattle.std.proofs.Math.Seq.{map-set_same}
 use Rattle.cf_tasks.specs.declared.entry.Item.{Item}
-use Rattle.cf_outside.specs.declared.entry.Kind.{Kind}
+use Rattle.cf_outside.specs.declared.entry.EntryKind.{EntryKind}
 use Rattle.cf_hub.proofs.Lines.{below}
 use Rattle.cf_outside.specs.declared.reader.Reader.{Reader}
 use Rattle.cf_hub.specs.Finish.{Read, whose, begun, numbers_of, read_numbers}
-use Rattle.cf_hub.specs.Over.{is_there, connected, numbers_from, AllGone, Heard, HaveEnded}
+use Rattle.cf_hub.specs.Over.{is_there, connections, numbers_from, AllGone, Heard, HaveEnded}
 use Rattle.cf_hub.specs.Writers.{text_in, texts, AreOpen, AreShut, Shuts}
 
 abbrev present : {X : Type 0} → Option X → Bool
@@ -78,48 +78,48 @@ length_map : {X Y : Type 0} (f : X → Y) (xs : List X) → length (map f xs) �
 length_map f [] = refl
 length_map f (x ∷ xs) = ap suc (length_map f xs)
 
-pub ended_same : (bs bs' : List Bool) (got got' : List (Item Kind)) → bs' ≡ bs → got' ≡ got → HaveEnded bs got → HaveEnded bs' got'
-ended_same bs bs' got got' e g h = let Q : List Bool → Type 0 = λ x. HaveEnded x got' in let R : List (Item Kind) → Type 0 = HaveEnded bs in subst Q (sym e) (subst R (sym g) h)
+pub ended_same : (bs bs' : List Bool) (got got' : List (Item EntryKind)) → bs' ≡ bs → got' ≡ got → HaveEnded bs got → HaveEnded bs' got'
+ended_same bs bs' got got' e g h = let Q : List Bool → Type 0 = λ x. HaveEnded x got' in let R : List (Item EntryKind) → Type 0 = HaveEnded bs in subst Q (sym e) (subst R (sym g) h)
 
 -- a fact of the first numbers, and of one more
 pub one_further : (P : ℕ → Type 0) (n : ℕ) → ((q : ℕ) → q < n → P q) → P n → (q : ℕ) → q < n + 1 → P q
 one_further P n h p q l = elim (below q n l) [ inl x ↦ h q x | inr x ↦ subst P (sym x) p ]
 
 module _ {W : Type 0} where
-  pub there_at : (ws : List (Option W)) (p : ℕ) (o : Option W) → slice_get ws p ≡ Some o → slice_index_or (connected ws) p false ≡ is_there o
+  pub there_at : (ws : List (Option W)) (p : ℕ) (o : Option W) → slice_get ws p ≡ Some o → slice_index_or (connections ws) p false ≡ is_there o
   there_at [] p o e = absurd (none_is o e)
   there_at (x ∷ xs) zero o e = ap is_there (some_is x o e)
   there_at (x ∷ xs) (suc p) o e = there_at xs p o e
 
-  pub none_at : (ws : List (Option W)) (p : ℕ) → slice_get ws p ≡ None → slice_index_or (connected ws) p false ≡ false
+  pub none_at : (ws : List (Option W)) (p : ℕ) → slice_get ws p ≡ None → slice_index_or (connections ws) p false ≡ false
   none_at [] p e = refl
   none_at (x ∷ xs) zero e = absurd (none_is x (sym e))
   none_at (x ∷ xs) (suc p) e = none_at xs p e
 
-  pub within : (ws : List (Option W)) (p : ℕ) → slice_index_or (connected ws) p false ≡ true → p < length ws
+  pub within : (ws : List (Option W)) (p : ℕ) → slice_index_or (connections ws) p false ≡ true → p < length ws
   within [] p e = absurd (true≢false (sym e))
   within (x ∷ xs) zero e = omega arith
   within (x ∷ xs) (suc p) e = let h = within xs p e in omega (arith, h)
 
   -- one that is there takes the place of one that is there
-  pub same_there : (ws ws' : List (Option W)) (p : ℕ) (w w' : W) → slice_get ws p ≡ Some (Some w) → ws' ≡ slice_set ws p (Some w') → connected ws' ≡ connected ws
-  same_there ws ws' p w w' at e = ap connected e ∙ map-set_same is_there ws p (Some w') (Some w) (ap is_there (sym (get_or_from_slice_get ws p (Some w) (Some w) at)))
+  pub same_there : (ws ws' : List (Option W)) (p : ℕ) (w w' : W) → slice_get ws p ≡ Some (Some w) → ws' ≡ slice_set ws p (Some w') → connections ws' ≡ connections ws
+  same_there ws ws' p w w' at e = ap connections e ∙ map-set_same is_there ws p (Some w') (Some w) (ap is_there (sym (get_or_from_slice_get ws p (Some w) (Some w) at)))
 
   -- a dial that went well
-  pub numbers_more : (ws ws' : List (Option W)) (w : W) (ns : List ℕ) → ws' ≡ ws ++ Some w ∷ [] → ns ≡ numbers_from 0 (connected ws) → ns ++ length ws ∷ [] ≡ numbers_from 0 (connected ws')
+  pub numbers_more : (ws ws' : List (Option W)) (w : W) (ns : List ℕ) → ws' ≡ ws ++ Some w ∷ [] → ns ≡ numbers_from 0 (connections ws) → ns ++ length ws ∷ [] ≡ numbers_from 0 (connections ws')
   numbers_more ws ws' w ns e h =
       ap (λ l. l ++ length ws ∷ []) h
-      ∙ (let n : length ws ≡ 0 + length (connected ws) = (let h = length_map is_there ws in omega (arith, h)) in ap (λ k. numbers_from 0 (connected ws) ++ k ∷ []) n)
-      ∙ sym (ap (λ l. numbers_from 0 (connected l)) e ∙ ap (numbers_from 0) (map-append is_there ws (Some w ∷ [])) ∙ numbers_marked 0 (connected ws))
+      ∙ (let n : length ws ≡ 0 + length (connections ws) = (let h = length_map is_there ws in omega (arith, h)) in ap (λ k. numbers_from 0 (connections ws) ++ k ∷ []) n)
+      ∙ sym (ap (λ l. numbers_from 0 (connections l)) e ∙ ap (numbers_from 0) (map-append is_there ws (Some w ∷ [])) ∙ numbers_marked 0 (connections ws))
 
   -- one that failed
-  pub numbers_none : (ws ws' : List (Option W)) → ws' ≡ ws ++ None ∷ [] → numbers_from 0 (connected ws') ≡ numbers_from 0 (connected ws)
-  numbers_none ws ws' e = ap (λ l. numbers_from 0 (connected l)) e ∙ ap (numbers_from 0) (map-append is_there ws (None ∷ [])) ∙ numbers_unmarked 0 (connected ws)
+  pub numbers_none : (ws ws' : List (Option W)) → ws' ≡ ws ++ None ∷ [] → numbers_from 0 (connections ws') ≡ numbers_from 0 (connections ws)
+  numbers_none ws ws' e = ap (λ l. numbers_from 0 (connections l)) e ∙ ap (numbers_from 0) (map-append is_there ws (None ∷ [])) ∙ numbers_unmarked 0 (connections ws)
 
-  pub ended_none : (ws ws' : List (Option W)) (got : List (Item Kind)) → ws' ≡ ws ++ None ∷ [] → HaveEnded (connected ws) got → HaveEnded (connected ws') got
-  ended_none ws ws' got e h = λ p m. h p (no_mark (connected ws) p (sym (ap (λ l. slice_index_or l p false) (ap connected e ∙ map-append is_there ws (None ∷ []))) ∙ m))
+  pub ended_none : (ws ws' : List (Option W)) (got : List (Item EntryKind)) → ws' ≡ ws ++ None ∷ [] → HaveEnded (connections ws) got → HaveEnded (connections ws') got
+  ended_none ws ws' got e h = λ p m. h p (no_mark (connections ws) p (sym (ap (λ l. slice_index_or l p false) (ap connections e ∙ map-append is_there ws (None ∷ []))) ∙ m))
 
-  pub have_ended : (ws : List (Option W)) (gone : List Bool) (got : List (Item Kind)) → AllGone ws gone → Heard gone got → HaveEnded (connected ws) got
+  pub have_ended : (ws : List (Option W)) (gone : List Bool) (got : List (Item EntryKind)) → AllGone ws gone → Heard gone got → HaveEnded (connections ws) got
   have_ended ws gone got a h = λ p m. h p (a p m)
 
 -- one writer is changed, and not what it tells
@@ -161,7 +161,7 @@ module _ {W : Type 0} (was_shut : W → Bool) where
 
 -- one reader more, for the writer that was added
 pub reading_more : {S R W : Type 0} (was now : List (Reader S R)) (x : Reader S R) (ws ws' : List (Option W)) (w : W) → now ≡ was ++ x ∷ [] → ws' ≡ ws ++ Some w ∷ [] → x.sender.number ≡ length ws
-    → numbers_of was ≡ numbers_from 0 (connected ws) → numbers_of now ≡ numbers_from 0 (connected ws')
+    → numbers_of was ≡ numbers_from 0 (connections ws) → numbers_of now ≡ numbers_from 0 (connections ws')
 reading_more was now x ws ws' w e f n h =
     ap numbers_of e ∙ map-append (λ t. t.sender.number) was (x ∷ []) ∙ ap (λ k. numbers_of was ++ k ∷ []) n ∙ numbers_more ws ws' w (numbers_of was) f h
 
@@ -183,8 +183,8 @@ pub shut_here : {W : Type 0} (written : W → Option (List ℕ)) (was_shut : W �
 shut_here written was_shut ws p w w' at e s = inr (w, w', at, refl, e, s)
 
 -- what a shut does to the other facts
-pub shuts_there : {W : Type 0} (written : W → Option (List ℕ)) (was_shut : W → Bool) (p : ℕ) (ws ws' : List (Option W)) → Shuts written was_shut p ws ws' → connected ws' ≡ connected ws
-shuts_there written was_shut p ws ws' s = elim s [ inl x ↦ ap connected x.1 | inr x ↦ same_there ws ws' p x.0 x.1 x.2 x.3 ]
+pub shuts_there : {W : Type 0} (written : W → Option (List ℕ)) (was_shut : W → Bool) (p : ℕ) (ws ws' : List (Option W)) → Shuts written was_shut p ws ws' → connections ws' ≡ connections ws
+shuts_there written was_shut p ws ws' s = elim s [ inl x ↦ ap connections x.1 | inr x ↦ same_there ws ws' p x.0 x.1 x.2 x.3 ]
 
 pub shuts_written : {W : Type 0} (written : W → Option (List ℕ)) (was_shut : W → Bool) (p : ℕ) (ws ws' : List (Option W)) → Shuts written was_shut p ws ws' → texts written ws' ≡ texts written ws
 shuts_written written was_shut p ws ws' s = elim s [ inl x ↦ ap (texts written) x.1 | inr x ↦ same_texts written ws ws' p x.0 x.1 x.2 x.3 x.4 ]
@@ -203,7 +203,7 @@ one_shut {W = W} written was_shut p ws ws' s h = λ q v l at. elim s [
       let was : slice_get ws q ≡ Some (Some v) = sym (ap (λ l. slice_get l q) x.1) ∙ at in
       elim (below q p l) [
         | inl m ↦ h q v m was
-        | inr e ↦ absurd (true≢false (sym (there_at ws q (Some v) was) ∙ ap (λ i. slice_index_or (connected ws) i false) e ∙ x.0))
+        | inr e ↦ absurd (true≢false (sym (there_at ws q (Some v) was) ∙ ap (λ i. slice_index_or (connections ws) i false) e ∙ x.0))
       ]
   | inr x ↦
       let now : slice_get (slice_set ws p (Some x.1)) q ≡ Some (Some v) = sym (ap (λ l. slice_get l q) x.3) ∙ at in

@@ -3,7 +3,7 @@ use Rattle.std.proofs.Common.{◌≡◌, ◌⊎◌, ◌<◌, ℕ, Bool, true, fa
 use Rattle.cf_bytes.specs.Outside.{HasRisen, with_more}
 use Rattle.cf_tasks.specs.declared.entry.Item.{Item}
 use Rattle.cf_tasks.specs.Queue.{of, IsStart}
-use Rattle.cf_outside.specs.declared.entry.Kind.{Kind}
+use Rattle.cf_outside.specs.declared.entry.EntryKind.{EntryKind}
 use Rattle.cf_outside.specs.Pieces.{is_open, Reads, HasLast}
 use Rattle.cf_outside.specs.Ticks.{ticks, Ticked}
 use Rattle.std.specs.Option.{ForSome}
@@ -24,14 +24,14 @@ told None = []
 told (Some l) = l
 
 module _ {S : Type 0} (left : S → Option (List ℕ)) (faults : S → ℕ) (ended : S → Bool) where
-  pub first_given : (j : Read S) (got : List (Item Kind)) (k : ℕ) (xs : List ℕ) → 0 < j.number → Reads left faults ended j.before j.sent j.after
+  pub first_given : (j : Read S) (got : List (Item EntryKind)) (k : ℕ) (xs : List ℕ) → 0 < j.number → Reads left faults ended j.before j.sent j.after
       → IsFront (of j.number got) j.sent → left j.before ≡ Some xs → IsStart (pieces_of j.number (take k (given_of got))) xs
   first_given j got k xs l r f t =
       let c = cut_of j.number k got j.sent f in
       let Q : List ℕ → Type 0 = λ b. IsStart b xs in
       subst Q (sym (ap (pieces_of j.number) c.2 ∙ pieces_given j.number l c.0)) (first_bytes left faults ended j.before j.after j.sent (of j.number c.0) xs r c.1 t)
 
-  pub all_given : (j : Read S) (got : List (Item Kind)) (k : ℕ) (xs : List ℕ) → 0 < j.number → Reads left faults ended j.before j.sent j.after
+  pub all_given : (j : Read S) (got : List (Item EntryKind)) (k : ℕ) (xs : List ℕ) → 0 < j.number → Reads left faults ended j.before j.sent j.after
       → IsFront (of j.number got) j.sent → has_gone j.number (take k (given_of got)) ≡ true → ¬ HasRisen (faults j.before) (faults j.after)
       → left j.before ≡ Some xs → pieces_of j.number (take k (given_of got)) ≡ xs
   all_given j got k xs l r f h calm t =
@@ -39,7 +39,7 @@ module _ {S : Type 0} (left : S → Option (List ℕ)) (faults : S → ℕ) (end
       let last : HasLast (of j.number c.0) = was_true (is_open (of j.number c.0)) (sym (ap (has_gone j.number) c.2 ∙ gone_given j.number l c.0) ∙ h) in
       ap (pieces_of j.number) c.2 ∙ pieces_given j.number l c.0 ∙ all_bytes left faults ended j.before j.after j.sent (of j.number c.0) xs r c.1 last calm t
 
-  pub gone_cause : (j : Read S) (got : List (Item Kind)) (k : ℕ) → 0 < j.number → Reads left faults ended j.before j.sent j.after
+  pub gone_cause : (j : Read S) (got : List (Item EntryKind)) (k : ℕ) → 0 < j.number → Reads left faults ended j.before j.sent j.after
       → IsFront (of j.number got) j.sent → has_gone j.number (take k (given_of got)) ≡ true
       → (ended j.after ≡ true) ⊎ HasRisen (faults j.before) (faults j.after)
   gone_cause j got k l r f h =
@@ -50,7 +50,7 @@ module _ {S : Type 0} (left : S → Option (List ℕ)) (faults : S → ℕ) (end
         | inr x ↦ elim x.6 [ inl y ↦ inl y.0 | inr y ↦ inr y ]
       ]
 
-pub first_ticks : {P : Type 0} (answers : P → Option (List ℕ)) (b : Beat P) (got : List (Item Kind)) (k : ℕ) (earlier xs : List ℕ) → Ticked answers b.before b.sent b.after
+pub first_ticks : {P : Type 0} (answers : P → Option (List ℕ)) (b : Beat P) (got : List (Item EntryKind)) (k : ℕ) (earlier xs : List ℕ) → Ticked answers b.before b.sent b.after
     → IsFront (of 0 got) b.sent → answers b.before ≡ Some earlier → answers b.after ≡ Some xs → IsStart (earlier ++ ticks_of (take k (given_of got))) xs
 first_ticks answers b got k earlier xs t f was is =
     let c = cut_of 0 k got b.sent f in
@@ -65,7 +65,7 @@ first_ticks answers b got k earlier xs t f was is =
 
 module _ {S : Type 0} (left : S → Option (List ℕ)) (faults : S → ℕ) (ended : S → Bool) where
   -- what the first deliveries show of each source that was read
-  pub all_show : (js : List (Read S)) (got : List (Item Kind)) (k : ℕ) → All (λ j. Reads left faults ended j.before j.sent j.after) js → Fronts got js → All (Shows left faults ended (take k (given_of got))) js
+  pub all_show : (js : List (Read S)) (got : List (Item EntryKind)) (k : ℕ) → All (λ j. Reads left faults ended j.before j.sent j.after) js → Fronts got js → All (Shows left faults ended (take k (given_of got))) js
   all_show js got k r f = λ i d l.
       let j : Read S = get_or js i d in
       let n = (f i d l).0 in
@@ -76,6 +76,6 @@ module _ {S : Type 0} (left : S → Option (List ℕ)) (faults : S → ℕ) (end
         cause = λ h. gone_cause left faults ended j got k n (r i d l) front h;
       }
 
-pub shows_ticks : {P : Type 0} (answers : P → Option (List ℕ)) (o : Option (Beat P)) (got : List (Item Kind)) (k : ℕ) → ForSome o (λ b. Ticked answers b.before b.sent b.after)
+pub shows_ticks : {P : Type 0} (answers : P → Option (List ℕ)) (o : Option (Beat P)) (got : List (Item EntryKind)) (k : ℕ) → ForSome o (λ b. Ticked answers b.before b.sent b.after)
     → ForSome o (λ b. IsFront (of 0 got) b.sent) → ForSome o (ShowsTicks answers (take k (given_of got)))
 shows_ticks answers o got k t f = λ b is earlier xs was all. first_ticks answers b got k earlier xs (t b is) (f b is) was all

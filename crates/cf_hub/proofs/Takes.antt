@@ -10,8 +10,8 @@ use Rattle.cf_wires.specs.declared.event.Delivery.TheVariants as gives
 use Rattle.cf_wires.specs.Log.{Log, Told, deliveries, is_real, tell, told_finished, longer}
 use Rattle.cf_tasks.specs.declared.entry.Item.{Item}
 use Rattle.cf_tasks.specs.Queue.{of, entry}
-use Rattle.cf_outside.specs.declared.entry.Kind.{Kind}
-use Rattle.cf_outside.specs.declared.entry.Kind.TheVariants as kinds
+use Rattle.cf_outside.specs.declared.entry.EntryKind.{EntryKind}
+use Rattle.cf_outside.specs.declared.entry.EntryKind.TheVariants as kinds
 use Rattle.cf_hub.specs.declared.book.HubLog.{HubLog}
 use Rattle.cf_hub.specs.Book.{told_of}
 use Rattle.cf_hub.specs.Gives.{delivery_of, given_of, LogGives, IsFront}
@@ -35,18 +35,18 @@ is_some (Some x) = true
 pub none_for : {X : Type 0} (P : X → Type 0) (o : Option X) → o ≡ None → ForSome o P
 none_for P o n = λ x e. absurd (true≢false (sym (ap is_some e) ∙ ap is_some n))
 
-pub wait_log : (t : Told) (got got' : List (Item Kind)) (from : ℕ) (kind : Kind) → got' ≡ got ++ entry from kind ∷ [] → t.tally.taken ≤ length (given_of got) → LogGives t got → LogGives t got'
-wait_log t got got' from kind e w h = let Q : List (Item Kind) → Type 0 = LogGives t in subst Q (sym e) (log_waits t got (entry from kind) w h)
+pub wait_log : (t : Told) (got got' : List (Item EntryKind)) (from : ℕ) (kind : EntryKind) → got' ≡ got ++ entry from kind ∷ [] → t.tally.taken ≤ length (given_of got) → LogGives t got → LogGives t got'
+wait_log t got got' from kind e w h = let Q : List (Item EntryKind) → Type 0 = LogGives t in subst Q (sym e) (log_waits t got (entry from kind) w h)
 
-pub wait_within : (n : ℕ) (got got' : List (Item Kind)) (from : ℕ) (kind : Kind) → got' ≡ got ++ entry from kind ∷ [] → n ≤ length (given_of got) → n ≤ length (given_of got')
+pub wait_within : (n : ℕ) (got got' : List (Item EntryKind)) (from : ℕ) (kind : EntryKind) → got' ≡ got ++ entry from kind ∷ [] → n ≤ length (given_of got) → n ≤ length (given_of got')
 wait_within n got got' from kind e w =
     let s : length (given_of got') ≡ length (given_of got) + length (delivery_of from kind) = ap (λ g. length (given_of g)) e ∙ ap length (given_more got from kind) ∙ length-append (given_of got) (delivery_of from kind) in
     omega (arith, w, s)
 
-pub not_given : (got got' : List (Item Kind)) (from : ℕ) (kind : Kind) → got' ≡ got ++ entry from kind ∷ [] → delivery_of from kind ≡ [] → given_of got' ≡ given_of got
+pub not_given : (got got' : List (Item EntryKind)) (from : ℕ) (kind : EntryKind) → got' ≡ got ++ entry from kind ∷ [] → delivery_of from kind ≡ [] → given_of got' ≡ given_of got
 not_given got got' from kind e n = ap given_of e ∙ given_more got from kind ∙ ap (λ l. given_of got ++ l) n ∙ append-nil (given_of got)
 
-pub is_given : (got got' : List (Item Kind)) (from : ℕ) (kind : Kind) (d : Delivery) → got' ≡ got ++ entry from kind ∷ [] → delivery_of from kind ≡ d ∷ [] → given_of got' ≡ given_of got ++ d ∷ []
+pub is_given : (got got' : List (Item EntryKind)) (from : ℕ) (kind : EntryKind) (d : Delivery) → got' ≡ got ++ entry from kind ∷ [] → delivery_of from kind ≡ d ∷ [] → given_of got' ≡ given_of got ++ d ∷ []
 is_given got got' from kind d e n = ap given_of e ∙ given_more got from kind ∙ ap (λ l. given_of got ++ l) n
 
 -- which entry is which delivery
@@ -75,43 +75,43 @@ tick_none zero s z = absurd (omega (arith, z))
 tick_none (suc p) s z = refl
 
 -- what is told stays the first of what was given, where one more is noted and given
-pub took_log : (t t' : Told) (got got' : List (Item Kind)) (d : Delivery) → t' ≡ tell (Took d) t → is_real d ≡ true → given_of got' ≡ given_of got ++ d ∷ []
+pub took_log : (t t' : Told) (got got' : List (Item EntryKind)) (d : Delivery) → t' ≡ tell (Took d) t → is_real d ≡ true → given_of got' ≡ given_of got ++ d ∷ []
     → t.tally.taken ≡ length (given_of got) → LogGives t got → LogGives t' got'
 took_log t t' got got' d e r g n h = let Q : Told → Type 0 = λ x. LogGives x got' in subst Q (sym e) (log_grows t got got' d r g n h)
 
-pub took_count : (t t' : Told) (got got' : List (Item Kind)) (d : Delivery) → t' ≡ tell (Took d) t → is_real d ≡ true → given_of got' ≡ given_of got ++ d ∷ []
+pub took_count : (t t' : Told) (got got' : List (Item EntryKind)) (d : Delivery) → t' ≡ tell (Took d) t → is_real d ≡ true → given_of got' ≡ given_of got ++ d ∷ []
     → t.tally.taken ≡ length (given_of got) → t'.tally.taken ≡ length (given_of got')
 took_count t t' got got' d e r g n = ap (λ (x : Told). x.tally.taken) e ∙ count_grows t got got' d r g n
 
-pub ended_log : (t t' : Told) (got : List (Item Kind)) → t' ≡ tell (Took gives.Ended) t → LogGives t got → LogGives t' got
+pub ended_log : (t t' : Told) (got : List (Item EntryKind)) → t' ≡ tell (Took gives.Ended) t → LogGives t got → LogGives t' got
 ended_log t t' got e h = let Q : Told → Type 0 = λ x. LogGives x got in subst Q (sym e) (log_ends t got h)
 
-pub finished_log : (t t' : Told) (got : List (Item Kind)) → t' ≡ told_finished t → LogGives t got → LogGives t' got
+pub finished_log : (t t' : Told) (got : List (Item EntryKind)) → t' ≡ told_finished t → LogGives t got → LogGives t' got
 finished_log t t' got e h = let Q : Told → Type 0 = λ x. LogGives x got in subst Q (sym e) h
 
-pub same_log : (t t' : Told) (got got' : List (Item Kind)) → t' ≡ t → got' ≡ got → LogGives t got → LogGives t' got'
-same_log t t' got got' e g h = let Q : Told → Type 0 = λ x. LogGives x got' in let R : List (Item Kind) → Type 0 = LogGives t in subst Q (sym e) (subst R (sym g) h)
+pub same_log : (t t' : Told) (got got' : List (Item EntryKind)) → t' ≡ t → got' ≡ got → LogGives t got → LogGives t' got'
+same_log t t' got got' e g h = let Q : Told → Type 0 = λ x. LogGives x got' in let R : List (Item EntryKind) → Type 0 = LogGives t in subst Q (sym e) (subst R (sym g) h)
 
 -- what was received beside it gave nothing
-same_given : (t t' : Told) (got got' : List (Item Kind)) → t' ≡ t → given_of got' ≡ given_of got → LogGives t got → LogGives t' got'
+same_given : (t t' : Told) (got got' : List (Item EntryKind)) → t' ≡ t → given_of got' ≡ given_of got → LogGives t got → LogGives t' got'
 same_given t t' got got' e g h =
     let Q : Told → Type 0 = λ x. LogGives x got' in
     subst Q (sym e) (λ log is. h log is ∙ ap (take t.tally.taken) (sym g))
 
-pub same_heard : (gone : List Bool) (got got' : List (Item Kind)) → got' ≡ got → Heard gone got → Heard gone got'
-same_heard gone got got' g h = let R : List (Item Kind) → Type 0 = Heard gone in subst R (sym g) h
+pub same_heard : (gone : List Bool) (got got' : List (Item EntryKind)) → got' ≡ got → Heard gone got → Heard gone got'
+same_heard gone got got' g h = let R : List (Item EntryKind) → Type 0 = Heard gone in subst R (sym g) h
 
-pub same_within : (n m : ℕ) (got got' : List (Item Kind)) → m ≡ n → got' ≡ got → n ≤ length (given_of got) → m ≤ length (given_of got')
+pub same_within : (n m : ℕ) (got got' : List (Item EntryKind)) → m ≡ n → got' ≡ got → n ≤ length (given_of got) → m ≤ length (given_of got')
 same_within n m got got' e g h = let s = ap (λ l. length (given_of l)) g in omega (arith, s, h, e)
 
-pub same_front : (got got' sent : List (Item Kind)) → got' ≡ got → IsFront (of 0 got) sent → IsFront (of 0 got') sent
-same_front got got' sent g h = let R : List (Item Kind) → Type 0 = λ l. IsFront (of 0 l) sent in subst R (sym g) h
+pub same_front : (got got' sent : List (Item EntryKind)) → got' ≡ got → IsFront (of 0 got) sent → IsFront (of 0 got') sent
+same_front got got' sent g h = let R : List (Item EntryKind) → Type 0 = λ l. IsFront (of 0 l) sent in subst R (sym g) h
 
 abbrev inner : Option Log → Log
 inner None = []
 inner (Some l) = l
 
-dial_log : (t : Told) (e : Event) (got : List (Item Kind)) → ((log : Log) → deliveries (e ∷ log) ≡ deliveries log) → (tell e t).tally.taken ≡ t.tally.taken → LogGives t got → LogGives (tell e t) got
+dial_log : (t : Told) (e : Event) (got : List (Item EntryKind)) → ((log : Log) → deliveries (e ∷ log) ≡ deliveries log) → (tell e t).tally.taken ≡ t.tally.taken → LogGives t got → LogGives (tell e t) got
 dial_log t e got q n h = one t.log refl
   where
     one : (o : Option Log) → t.log ≡ o → LogGives (tell e t) got
@@ -119,10 +119,10 @@ dial_log t e got q n h = one t.log refl
     one (Some l) z = λ log is.
         ap deliveries (ap inner (sym is) ∙ ap (λ x. inner (longer e x)) z) ∙ q l ∙ h l z ∙ sym (ap (λ k. take k (given_of got)) n)
 
-pub dialled_log : (t t' : Told) (got : List (Item Kind)) (p : PeerNo) (name : List ℕ) → t' ≡ tell (Dialled p name) t → LogGives t got → LogGives t' got
+pub dialled_log : (t t' : Told) (got : List (Item EntryKind)) (p : PeerNo) (name : List ℕ) → t' ≡ tell (Dialled p name) t → LogGives t got → LogGives t' got
 dialled_log t t' got p name e h = let Q : Told → Type 0 = λ x. LogGives x got in subst Q (sym e) (dial_log t (Dialled p name) got (λ _. refl) refl h)
 
-pub missed_log : (t t' : Told) (got : List (Item Kind)) (p : PeerNo) (name : List ℕ) → t' ≡ tell (NotDialled p name) t → LogGives t got → LogGives t' got
+pub missed_log : (t t' : Told) (got : List (Item EntryKind)) (p : PeerNo) (name : List ℕ) → t' ≡ tell (NotDialled p name) t → LogGives t got → LogGives t' got
 missed_log t t' got p name e h = let Q : Told → Type 0 = λ x. LogGives x got in subst Q (sym e) (dial_log t (NotDialled p name) got (λ _. refl) refl h)
 
 -- what goes on is not joined
@@ -130,7 +130,7 @@ pub not_joined : (joined finished : Bool) → (joined ≡ true → finished ≡ 
 not_joined true finished h s = absurd (true≢false (sym (h refl) ∙ s))
 not_joined false finished h s = refl
 
-pub no_fronts : {S : Type 0} (got : List (Item Kind)) (js : List (Read S)) → js ≡ [] → Fronts got js
+pub no_fronts : {S : Type 0} (got : List (Item EntryKind)) (js : List (Read S)) → js ≡ [] → Fronts got js
 no_fronts got js e = none_all (λ j. (0 < j.number) × IsFront (of j.number got) j.sent) js e
 
 abbrev here : {X : Type 0} → X → Option X → X
@@ -140,21 +140,21 @@ here x (Some y) = y
 pub for_some : {X : Type 0} (P : X → Type 0) (x : X) → P x → ForSome (Some x) P
 for_some P x h = λ y e. subst P (ap (here x) e) h
 
-pub moved_fronts : {S : Type 0} (got got' : List (Item Kind)) (js : List (Read S)) → got' ≡ got → Fronts got js → Fronts got' js
-moved_fronts got got' js e h = let Q : List (Item Kind) → Type 0 = λ g. Fronts g js in subst Q (sym e) h
+pub moved_fronts : {S : Type 0} (got got' : List (Item EntryKind)) (js : List (Read S)) → got' ≡ got → Fronts got js → Fronts got' js
+moved_fronts got got' js e h = let Q : List (Item EntryKind) → Type 0 = λ g. Fronts g js in subst Q (sym e) h
 
 -- a send, a send that failed and a close are no deliveries
-pub sent_log : (t t' : Told) (got : List (Item Kind)) (p : PeerNo) (b : List ℕ) → t' ≡ tell (Sent p b) t → LogGives t got → LogGives t' got
+pub sent_log : (t t' : Told) (got : List (Item EntryKind)) (p : PeerNo) (b : List ℕ) → t' ≡ tell (Sent p b) t → LogGives t got → LogGives t' got
 sent_log t t' got p b e h = let Q : Told → Type 0 = λ x. LogGives x got in subst Q (sym e) (dial_log t (Sent p b) got (λ _. refl) refl h)
 
-pub failed_log : (t t' : Told) (got : List (Item Kind)) (p : PeerNo) → t' ≡ tell (SendFailed p) t → LogGives t got → LogGives t' got
+pub failed_log : (t t' : Told) (got : List (Item EntryKind)) (p : PeerNo) → t' ≡ tell (SendFailed p) t → LogGives t got → LogGives t' got
 failed_log t t' got p e h = let Q : Told → Type 0 = λ x. LogGives x got in subst Q (sym e) (dial_log t (SendFailed p) got (λ _. refl) refl h)
 
-pub closed_log : (t t' : Told) (got : List (Item Kind)) (p : PeerNo) → t' ≡ tell (Closed p) t → LogGives t got → LogGives t' got
+pub closed_log : (t t' : Told) (got : List (Item EntryKind)) (p : PeerNo) → t' ≡ tell (Closed p) t → LogGives t got → LogGives t' got
 closed_log t t' got p e h = let Q : Told → Type 0 = λ x. LogGives x got in subst Q (sym e) (dial_log t (Closed p) got (λ _. refl) refl h)
 
 -- what a book and what was received keep as an entry is taken
-pub record Noted (b b' : HubLog) (got got' : List (Item Kind)) : Type 0 where
+pub record Noted (b b' : HubLog) (got got' : List (Item EntryKind)) : Type 0 where
   pub dials : b'.dials ≡ b.dials
   pub closed : b'.closed ≡ b.closed
   pub finished : b'.finished ≡ b.finished
@@ -180,7 +180,7 @@ real_is (gives.Tick s) n = refl
 real_is gives.Ended n = absurd (n refl)
 
 -- an entry was taken: it was noted where it is a delivery
-pub on_noted : (o : Option Delivery) (b b' : HubLog) (got got' : List (Item Kind))
+pub on_noted : (o : Option Delivery) (b b' : HubLog) (got got' : List (Item EntryKind))
     → IfSome o (λ d. (told_of b' ≡ tell (Took d) (told_of b)) × (given_of got' ≡ given_of got ++ d ∷ []))
     → IfNone o ((b' ≡ b) × (given_of got' ≡ given_of got)) → IfSome o (λ d. d ≢ gives.Ended)
     → b.taken ≡ length (given_of got) → LogGives (told_of b) got → Noted b b' got got'

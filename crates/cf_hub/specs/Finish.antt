@@ -3,7 +3,7 @@ use Rattle.std.specs.Prelude.{◌<◌, ℕ, List, Option, Some, None, All, map}
 use Rattle.cf_tasks.specs.declared.entry.Item.{Item}
 use Rattle.cf_tasks.specs.declared.entry.Ended.{Ended}
 use Rattle.cf_tasks.specs.Queue.{of}
-use Rattle.cf_outside.specs.declared.entry.Kind.{Kind}
+use Rattle.cf_outside.specs.declared.entry.EntryKind.{EntryKind}
 use Rattle.cf_outside.specs.declared.reader.Reader.{Reader}
 use Rattle.cf_hub.specs.Gives.{IsFront}
 
@@ -11,17 +11,17 @@ use Rattle.cf_hub.specs.Gives.{IsFront}
 pub record Read (S : Type 0) : Type 0 where
   pub number : ℕ
   pub before : S
-  pub sent : List (Item Kind)
+  pub sent : List (Item EntryKind)
   pub after : S
 
 -- a pulse as the hub got it, what the ticker sent of it, and what it came to
 pub record Beat (P : Type 0) : Type 0 where
   pub before : P
-  pub sent : List (Item Kind)
+  pub sent : List (Item EntryKind)
   pub after : P
 
 -- what the receiver took in of it
-abbrev pub end_of : {S : Type 0} → Read S → Ended Kind
+abbrev pub end_of : {S : Type 0} → Read S → Ended EntryKind
 end_of j = record { from = j.number; sent = j.sent }
 
 -- whose source it is
@@ -46,5 +46,5 @@ abbrev pub read_numbers : {S : Type 0} → List (Read S) → List ℕ
 read_numbers js = map (λ j. j.number) js
 
 -- each has a peer's number, and what was received of it is a beginning of what it sent
-abbrev pub Fronts : {S : Type 0} → List (Item Kind) → List (Read S) → Type 0
+abbrev pub Fronts : {S : Type 0} → List (Item EntryKind) → List (Read S) → Type 0
 Fronts got js = All (λ j. (0 < j.number) × IsFront (of j.number got) j.sent) js

@@ -5,11 +5,11 @@ use Rattle.cf_wires.specs.declared.event.Delivery.{Delivery}
 use Rattle.cf_wires.specs.declared.event.Delivery.TheVariants as gives
 use Rattle.cf_wires.specs.Log.{Told, deliveries}
 use Rattle.cf_tasks.specs.declared.entry.Item.{Item}
-use Rattle.cf_outside.specs.declared.entry.Kind.{Kind}
-use Rattle.cf_outside.specs.declared.entry.Kind.TheVariants as kinds
+use Rattle.cf_outside.specs.declared.entry.EntryKind.{EntryKind}
+use Rattle.cf_outside.specs.declared.entry.EntryKind.TheVariants as kinds
 
 -- the ticker, whose number is 0, gives ticks alone, and a reader its pieces and its end
-abbrev pub delivery_of : ℕ → Kind → List Delivery
+abbrev pub delivery_of : ℕ → EntryKind → List Delivery
 delivery_of zero (kinds.Got b) = []
 delivery_of zero (kinds.Tick s) = gives.Tick s ∷ []
 delivery_of zero kinds.Last = []
@@ -18,7 +18,7 @@ delivery_of (suc p) (kinds.Tick s) = []
 delivery_of (suc p) kinds.Last = gives.Gone (record { 0 = suc p }) ∷ []
 
 -- the deliveries among the entries, in order
-abbrev pub given_of : List (Item Kind) → List Delivery
+abbrev pub given_of : List (Item EntryKind) → List Delivery
 given_of [] = []
 given_of (e ∷ es) = delivery_of e.from e.kind ++ given_of es
 
@@ -30,7 +30,7 @@ IsProper (gives.Tick s) = (1 ≤ s) × (s ≤ 86400)
 IsProper gives.Ended = Unit {0}
 
 -- a told log's deliveries are the first of those that were received, as many as were taken
-abbrev pub LogGives : Told → List (Item Kind) → Type 0
+abbrev pub LogGives : Told → List (Item EntryKind) → Type 0
 LogGives t got = ForSome t.log (λ log. deliveries log ≡ take t.tally.taken (given_of got))
 
 -- the bytes of one delivery, where it is p's

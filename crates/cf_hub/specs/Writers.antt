@@ -2,7 +2,7 @@
 use Rattle.std.specs.Prelude.{◌≡◌, ◌⊎◌, ◌≤◌, ℕ, Bool, true, false, List, [], ◌∷◌, ◌++◌, Option, Some, None, Result, Ok, Err, length, map, take, slice_set, slice_index_or}
 use Rattle.std.specs.List.{sum_by, slice_get}
 use Rattle.cf_bytes.specs.Outside.{with_more}
-use Rattle.cf_hub.specs.Over.{connected}
+use Rattle.cf_hub.specs.Over.{connections}
 use Rattle.cf_wires.specs.declared.wires.WireFail.{WireFail}
 use Rattle.cf_wires.specs.declared.wires.WireFail.TheVariants as fails
 
@@ -31,7 +31,7 @@ module _ {W : Type 0} (written : W → Option (List ℕ)) (was_shut : W → Bool
   -- p's writer, where there is one, was shut, and nothing written; every other stays as it was
   abbrev pub Shuts : ℕ → List (Option W) → List (Option W) → Type 0
   Shuts p ws ws' =
-      ((slice_index_or (connected ws) p false ≡ false) × (ws' ≡ ws))
+      ((slice_index_or (connections ws) p false ≡ false) × (ws' ≡ ws))
       ⊎ ((w : W) × (w' : W) × (slice_get ws p ≡ Some (Some w)) × (ws' ≡ slice_set ws p (Some w'))
       × (written w' ≡ written w) × (was_shut w' ≡ true))
 

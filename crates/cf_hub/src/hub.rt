@@ -6,8 +6,8 @@ ghost use Rattle.crossbeam_channel.specs.Ends.{sends_on};
 ghost use Rattle.cf_bytes.specs.{HasRisen, with_more};
 ghost use Rattle.cf_hub.specs.Book.{told_of, keeps_of, IsReady};
 ghost use Rattle.cf_tasks.specs.{of, entry, receiver, with_got, HasGiven, HasFailed};
-ghost use Rattle.cf_outside.specs.declared.entry.Kind.TheVariants.{Last};
-ghost use Rattle.cf_hub.specs.Over.{AllGone, Heard, HaveEnded, connected, numbers_from};
+ghost use Rattle.cf_outside.specs.declared.entry.EntryKind.TheVariants.{Last};
+ghost use Rattle.cf_hub.specs.Over.{AllGone, Heard, HaveEnded, connections, numbers_from};
 ghost use Rattle.cf_wires.specs.declared.event.Delivery.TheVariants.{Ended};
 ghost use Rattle.cf_wires.specs.declared.event.Event.TheVariants.{Took, Dialled, NotDialled, Sent, SendFailed, Closed};
 ghost use Rattle.cf_wires.specs.{Tells as IsTold, deliveries, tell, told_finished, was_closed, HasCause};
@@ -27,7 +27,7 @@ use crate::taking::{are_gone, receive, take_entry};
 use crate::writers::{put_to, shut_at};
 use cf_bytes::{Failed, NoMemory, PeerNo};
 use cf_conn::Source;
-use cf_outside::{CHUNK, Dialer, Kind, Pulse, Reader, StopFlag, Ticker, Writer};
+use cf_outside::{CHUNK, Dialer, EntryKind, Pulse, Reader, StopFlag, Ticker, Writer};
 use cf_tasks::{Busy, Item, Queue, Sender, Spawner, Workers};
 use cf_wires::{Delivery, Name, WireFail, Wires};
 use std::alloc::{AllocError, Global};
@@ -40,7 +40,7 @@ use std::thread::Threads;
 #[derive(Drop)]
 struct Clock<P> {
     pulse: P,
-    sender: Sender<Kind>,
+    sender: Sender<EntryKind>,
     stop: StopFlag,
     ghost unasked: { stop ≡ false },
 }
@@ -57,7 +57,7 @@ pub struct Hub<D: Dialer, P: Pulse, R: Wait + Threads + Copy + Drop> {
     clock: Option<Clock<P>>,
     ticking: Option<Busy<Ticker<P, R>, R>>,
     // The senders of the peers that were not dialled yet, the next one's last.
-    spare: Vec<Sender<Kind>>,
+    spare: Vec<Sender<EntryKind>>,
     reading: Vec<Busy<Reader<D::Read, R>, R>>,
     // The sources of the readers that were joined, and the pulse.
     done: Vec<Joined<D::Read, R>>,
@@ -66,7 +66,7 @@ pub struct Hub<D: Dialer, P: Pulse, R: Wait + Threads + Copy + Drop> {
     joined: bool,
     // By the number of the peer; none where the dial failed.
     writers: Vec<Option<D::Write>>,
-    queue: Queue<Kind>,
+    queue: Queue<EntryKind>,
     // Of which peers the last entry has come; at place 0 that of the ticker.
     gone: [bool; 9],
     // How many dials found no thread, or came too late, and how many sends found no writer.
@@ -90,12 +90,12 @@ pub struct Hub<D: Dialer, P: Pulse, R: Wait + Threads + Copy + Drop> {
     ghost runs: { joined ≡ false → clock ≡ None → IsSome ticking },
     ghost owed: { joined ≡ true → clock ≡ None → IsSome rested },
     ghost stopped: { joined ≡ true → book.finished ≡ true },
-    ghost over: { joined ≡ true → HaveEnded (connected writers.items) (view queue.seat).got },
+    ghost over: { joined ≡ true → HaveEnded (connections writers.items) (view queue.seat).got },
     ghost fronts: { Fronts (view queue.seat).got done.items },
     ghost beats: { ForSome rested (λ r. IsFront (of 0 (view queue.seat).got) r.sent) },
     ghost unshut: { book.finished ≡ false → AreOpen D.Write.was_shut book.closed writers.items },
-    ghost reading_are: { joined ≡ false → numbers_of reading.items ≡ numbers_from 0 (connected writers.items) },
-    ghost done_are: { joined ≡ true → read_numbers done.items ≡ numbers_from 0 (connected writers.items) },
+    ghost reading_are: { joined ≡ false → numbers_of reading.items ≡ numbers_from 0 (connections writers.items) },
+    ghost done_are: { joined ≡ true → read_numbers done.items ≡ numbers_from 0 (connections writers.items) },
 }
 
 // Hands a pulse over to a thread, unless that was done. False where none takes it.
@@ -239,10 +239,10 @@ impl<D: Dialer, P: Pulse, R: Wait + Threads + Copy + Drop> Hub<D, P, R> {
         ensures log { ForSome (told_of self.now.book).log
             (λ log. deliveries log ≡ take self.now.book.taken (given_of (view self.now.queue.seat).got)) }
         ensures peers { self.now.joined ≡ true
-            → read_numbers self.now.done.items ≡ numbers_from 0 (connected self.now.writers.items) }
+            → read_numbers self.now.done.items ≡ numbers_from 0 (connections self.now.writers.items) }
         ensures ticker { self.now.joined ≡ true → self.now.clock ≡ None → IsSome self.now.rested }
         ensures ended { self.now.joined ≡ true
-            → HaveEnded (connected self.now.writers.items) (view self.now.queue.seat).got }
+            → HaveEnded (connections self.now.writers.items) (view self.now.queue.seat).got }
         ensures sources { All (Shows D.Read.left D.Read.faults D.Read.ended
             (take self.now.book.taken (given_of (view self.now.queue.seat).got))) self.now.done.items }
         ensures ticks { ForSome self.now.rested
@@ -423,7 +423,7 @@ impl<D: Dialer, P: Pulse, R: Wait + Threads + Copy + Drop> Hub<D, P, R> {
         ensures joined { self.new.joined ≡ self.old.joined }
         ensures seat { view self.new.queue.seat ≡ view self.old.queue.seat }
         ensures threads { KeepsThreads self.old self.new }
-        ensures missed { slice_index_or (connected self.old.writers.items) p.0 false ≡ true
+        ensures missed { slice_index_or (connections self.old.writers.items) p.0 false ≡ true
             → self.new.missed ≡ self.old.missed }
         ensures ok { OnOk result ((self.new.missed ≡ self.old.missed)
             × Adds D.Write.written D.Write.was_shut p.0 bytes.now self.old.writers.items self.new.writers.items) }
@@ -510,7 +510,7 @@ impl<D: Dialer, P: Pulse, R: Wait + Threads + Copy + Drop> Hub<D, P, R> {
         ensures ends { KeepsEnds self.old self.new }
         ensures writers { self.new.writers ≡ self.old.writers }
         ensures threads { KeepsThreads self.old self.new }
-        ensures ended { HaveEnded (connected self.new.writers.items) (view self.new.queue.seat).got }
+        ensures ended { HaveEnded (connections self.new.writers.items) (view self.new.queue.seat).got }
     {
         if self.joined {
             return;
@@ -529,7 +529,7 @@ impl<D: Dialer, P: Pulse, R: Wait + Threads + Copy + Drop> Hub<D, P, R> {
     fn join_all(&mut self)
         requires finished { self.old.book.finished ≡ true }
         requires joined { self.old.joined ≡ false }
-        requires ended { HaveEnded (connected self.old.writers.items) (view self.old.queue.seat).got }
+        requires ended { HaveEnded (connections self.old.writers.items) (view self.old.queue.seat).got }
         ensures book { self.new.book ≡ self.old.book }
         ensures own { KeepsOwn self.old self.new }
         ensures writers { self.new.writers ≡ self.old.writers }
@@ -738,7 +738,7 @@ impl<D: Dialer, P: Pulse, R: Wait + Threads + Copy + Drop> Wires for Hub<D, P, R
         ensures same { no_script ≡ no_script }
         ensures writes { Sends D.Write.written D.Write.was_shut result p.0 bytes.now
             self.old.writers.items self.new.writers.items }
-        ensures missed { slice_index_or (connected self.old.writers.items) p.0 false ≡ true
+        ensures missed { slice_index_or (connections self.old.writers.items) p.0 false ≡ true
             → self.new.missed ≡ self.old.missed }
         ensures dialer { self.new.dialer ≡ self.old.dialer }
         ensures threads { KeepsThreads self.old self.new }
@@ -780,7 +780,7 @@ impl<D: Dialer, P: Pulse, R: Wait + Threads + Copy + Drop> Wires for Hub<D, P, R
         ensures same { no_script ≡ no_script }
         ensures ended { (told_of self.old.book).finished ≡ true → IfOk result (λ d. d ≡ Delivery.Ended) }
         ensures last { IfOk result (λ d. d ≡ Delivery.Ended
-            → HaveEnded (connected self.new.writers.items) (view self.new.queue.seat).got) }
+            → HaveEnded (connections self.new.writers.items) (view self.new.queue.seat).got) }
         ensures writers { self.new.writers ≡ self.old.writers }
         ensures proper { IfOk result (λ d. IsProper d) }
         ensures gave { IfOk result (λ d. d ≢ Delivery.Ended

@@ -9,7 +9,7 @@ ghost use Rattle.cf_hub.specs.Gives.{IsFront};
 ghost use Rattle.cf_outside.specs.{Reads, Ticked};
 
 use cf_conn::Source;
-use cf_outside::{Finished, Kind, Pulse, Reader, Stopped, Ticker};
+use cf_outside::{Finished, EntryKind, Pulse, Reader, Stopped, Ticker};
 use cf_tasks::{Busy, Queue, Sender};
 use std::marker::Model;
 use std::snapshot::Snapshot;
@@ -22,7 +22,7 @@ pub struct Joined<S: Source + Drop, R: Wait + Drop> {
     number: u8,
     of: Snapshot<Busy<Reader<S, R>, R>>,
     source: S,
-    seat: Snapshot<Sender<Kind>>,
+    seat: Snapshot<Sender<EntryKind>>,
 }
 
 impl<S: Source + Drop, R: Wait + Drop> Model for Joined<S, R> {
@@ -66,7 +66,7 @@ pub(crate) fn each_reads<S: Source + Drop, R: Wait + Drop>(done: &[Joined<S, R>]
 pub struct Rested<P: Pulse, R: Wait + Drop> {
     of: Snapshot<Busy<Ticker<P, R>, R>>,
     pulse: P,
-    seat: Snapshot<Sender<Kind>>,
+    seat: Snapshot<Sender<EntryKind>>,
 }
 
 impl<P: Pulse, R: Wait + Drop> Model for Rested<P, R> {
@@ -105,7 +105,7 @@ pub(crate) fn it_ticks<P: Pulse, R: Wait + Drop>(rested: &Option<Rested<P, R>>)
 /// is what its source gave.
 pub(crate) fn join_readers<S: Source + Drop, R: Wait + Drop, T: Threads + Wait>(
     rt: &T,
-    queue: &mut Queue<Kind>,
+    queue: &mut Queue<EntryKind>,
     held: Vec<Busy<Reader<S, R>, R>>,
     done: &mut Vec<Joined<S, R>>,
 )
@@ -137,7 +137,7 @@ pub(crate) fn join_readers<S: Source + Drop, R: Wait + Drop, T: Threads + Wait>(
 /// Waits for the ticker, and takes its sender in. What was received of it is a beginning of what it sent.
 pub(crate) fn join_ticker<P: Pulse, R: Wait + Drop, T: Threads + Wait>(
     rt: &T,
-    queue: &mut Queue<Kind>,
+    queue: &mut Queue<EntryKind>,
     held: Option<Busy<Ticker<P, R>, R>>,
 ) -> Option<Rested<P, R>>
     requires one { ForSome held (λ h. (sends_on h.sender.line ≡ sends_on queue.old.line) × (h.sender.number ≡ 0)) }

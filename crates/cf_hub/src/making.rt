@@ -8,7 +8,7 @@ ghost use Rattle.cf_wires.specs.{Tells as IsTold};
 
 use crate::book::HubLog;
 use cf_bytes::NoMemory;
-use cf_outside::{Kind, StopFlag};
+use cf_outside::{EntryKind, StopFlag};
 use cf_tasks::{Queue, Sender};
 use cf_wires::MOST_PEERS;
 use std::alloc::{AllocError, Global};
@@ -16,7 +16,7 @@ use std::sync::Arc;
 use std::sync::atomic::AtomicBool;
 
 // A sender for each peer, that of the first last.
-fn peer_senders(alloc: Global, queue: &mut Queue<Kind>) -> Result<Vec<Sender<Kind>>, AllocError>
+fn peer_senders(alloc: Global, queue: &mut Queue<EntryKind>) -> Result<Vec<Sender<EntryKind>>, AllocError>
     requires { queue.old.made ≡ 1 }
     ensures ring { sends_on queue.new.line ≡ sends_on queue.old.line }
     ensures got { (view queue.new.seat).got ≡ (view queue.old.seat).got }
@@ -37,9 +37,9 @@ fn peer_senders(alloc: Global, queue: &mut Queue<Kind>) -> Result<Vec<Sender<Kin
 // The queue, the ticker's sender, and those of the peers.
 #[derive(Drop)]
 pub(crate) struct Lines {
-    pub(crate) queue: Queue<Kind>,
-    pub(crate) sender: Sender<Kind>,
-    pub(crate) spare: Vec<Sender<Kind>>,
+    pub(crate) queue: Queue<EntryKind>,
+    pub(crate) sender: Sender<EntryKind>,
+    pub(crate) spare: Vec<Sender<EntryKind>>,
     pub(crate) ghost waits: { Waits queue sender },
     pub(crate) ghost spares: { Down queue spare.items },
     pub(crate) ghost numbers: { vec_len spare ≡ 8 },

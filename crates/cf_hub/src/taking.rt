@@ -8,17 +8,17 @@ ghost use Rattle.cf_wires.specs.declared.event.Event.TheVariants.{Took};
 ghost use Rattle.cf_wires.specs.{tell};
 ghost use Rattle.cf_hub.specs.Book.{told_of, keeps_of, IsReady};
 ghost use Rattle.cf_hub.specs.Gives.{given_of, IsProper};
-ghost use Rattle.cf_hub.specs.Over.{AllGone, Heard, connected};
+ghost use Rattle.cf_hub.specs.Over.{AllGone, Heard, connections};
 
 use crate::book::{HubLog, filled};
 use cf_bytes::PeerNo;
-use cf_outside::Kind;
+use cf_outside::EntryKind;
 use cf_tasks::{Item, Queue};
 use cf_wires::Delivery;
 use std::sync::Wait;
 
 // Takes the next entry, and notes whose last it is.
-pub(crate) fn receive<R: Wait>(rt: &R, queue: &mut Queue<Kind>, gone: &mut [bool; 9]) -> Item<Kind>
+pub(crate) fn receive<R: Wait>(rt: &R, queue: &mut Queue<EntryKind>, gone: &mut [bool; 9]) -> Item<EntryKind>
     ensures ring { sends_on queue.new.line ≡ sends_on queue.old.line }
     ensures got { (view queue.new.seat).got ≡ (view queue.old.seat).got ++ entry result.from result.kind ∷ [] }
     ensures heard { Heard gone.old (view queue.old.seat).got → Heard gone.new (view queue.new.seat).got }
@@ -31,7 +31,7 @@ pub(crate) fn receive<R: Wait>(rt: &R, queue: &mut Queue<Kind>, gone: &mut [bool
 // Takes the next entry. Where it is a delivery, it is noted and given.
 pub(crate) fn take_entry<R: Wait>(
     rt: &R,
-    queue: &mut Queue<Kind>,
+    queue: &mut Queue<EntryKind>,
     gone: &mut [bool; 9],
     book: &mut HubLog,
     bytes: Vec<u8>,
@@ -54,14 +54,14 @@ pub(crate) fn take_entry<R: Wait>(
     let Item { from, kind } = receive(rt, queue, gone);
     let p = PeerNo(u32::from(from));
     match kind {
-        Kind::Got(chunk) => {
+        EntryKind::Got(chunk) => {
             if from == 0 {
                 return None;
             }
             book.note_got(p, chunk.bytes(), room);
             Some(Delivery::Got(p, filled(bytes, chunk.bytes())))
         }
-        Kind::Tick(seconds) => {
+        EntryKind::Tick(seconds) => {
             if from > 0 {
                 return None;
             }
@@ -69,7 +69,7 @@ pub(crate) fn take_entry<R: Wait>(
             book.note_tick(seconds);
             Some(Delivery::Tick(seconds))
         }
-        Kind::Last => {
+        EntryKind::Last => {
             if from == 0 {
                 return None;
             }
@@ -80,24 +80,24 @@ pub(crate) fn take_entry<R: Wait>(
 }
 
 // Notes a last entry.
-fn note_last(gone: &mut [bool; 9], entry: &Item<Kind>)
+fn note_last(gone: &mut [bool; 9], entry: &Item<EntryKind>)
     ensures last { is_last entry.now.kind ≡ true → gone.new ≡ slice_set gone.old entry.now.from true }
     ensures other { is_last entry.now.kind ≡ false → gone.new ≡ gone.old }
 {
     match &entry.kind {
-        Kind::Last => {
+        EntryKind::Last => {
             if entry.from < 9 {
                 gone[entry.from as usize] = true;
             }
         }
-        Kind::Got(_) | Kind::Tick(_) => {}
+        EntryKind::Got(_) | EntryKind::Tick(_) => {}
     }
 }
 
 // Whether a peer has a writer.
 #[tactic(auto, using(crate::proofs::Opened::there_at, crate::proofs::Opened::none_at))]
 fn is_connected<W>(writers: &[Option<W>], p: usize) -> bool
-    ensures { result ≡ slice_index_or (connected writers.now) p false }
+    ensures { result ≡ slice_index_or (connections writers.now) p false }
 {
     match writers.get(p) {
         Some(Some(_)) => true,
@@ -114,7 +114,7 @@ fn is_noted(gone: &[bool; 9], p: usize) -> bool
 
 // Whether a peer has a writer, and its last entry was not noted.
 pub(crate) fn is_left<W>(writers: &[Option<W>], gone: &[bool; 9], p: usize) -> bool
-    ensures { result ≡ false → slice_index_or (connected writers.now) p false ≡ true
+    ensures { result ≡ false → slice_index_or (connections writers.now) p false ≡ true
         → slice_index_or gone.now p false ≡ true }
 {
     is_connected(writers, p) && !is_noted(gone, p)

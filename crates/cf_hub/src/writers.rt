@@ -1,7 +1,7 @@
 //! The writers of the peers, by their numbers.
 ghost use Rattle.std.specs.Prelude.{◌≡◌, ◌<◌, ◌≤◌, ℕ, List, Bool, true, false, IfNone, IfSome, OnOk, OnErr, Result, length, slice_index_or, take, vec_capacity, vec_len};
 ghost use Rattle.cf_bytes.specs.{HasRisen, with_more};
-ghost use Rattle.cf_hub.specs.Over.{connected};
+ghost use Rattle.cf_hub.specs.Over.{connections};
 ghost use Rattle.cf_hub.specs.Writers.{faults_in, texts, Adds, AreOpen, Shuts};
 
 use cf_bytes::{Failed, PeerNo};
@@ -34,7 +34,7 @@ pub(crate) fn put_to<W: Writer>(
     ensures len { vec_len writers.new ≡ vec_len writers.old }
     ensures capacity { vec_capacity writers.new ≡ vec_capacity writers.old }
     ensures none { IfNone result ((writers.new.items ≡ writers.old.items)
-        × (slice_index_or (connected writers.old.items) p.0 false ≡ false)) }
+        × (slice_index_or (connections writers.old.items) p.0 false ≡ false)) }
     ensures ok { IfSome result
         (λ r. OnOk r ((faults_in W.faults writers.new.items ≡ faults_in W.faults writers.old.items)
         × Adds W.written W.was_shut p.0 bytes.now writers.old.items writers.new.items)) }
@@ -43,7 +43,7 @@ pub(crate) fn put_to<W: Writer>(
         × (n ≤ length bytes.now)
         × Adds W.written W.was_shut p.0 (take n bytes.now) writers.old.items writers.new.items))) }
     ensures later { faults_in W.faults writers.old.items ≤ faults_in W.faults writers.new.items }
-    ensures there { connected writers.new.items ≡ connected writers.old.items }
+    ensures there { connections writers.new.items ≡ connections writers.old.items }
     ensures unshut { (closed : List Bool) → AreOpen W.was_shut closed writers.old.items
         → AreOpen W.was_shut closed writers.new.items }
 {
@@ -62,7 +62,7 @@ pub(crate) fn shut_at<W: Writer>(writers: &mut Vec<Option<W>>, p: PeerNo)
     ensures capacity { vec_capacity writers.new ≡ vec_capacity writers.old }
     ensures shut { Shuts W.written W.was_shut p.0 writers.old.items writers.new.items }
     ensures faults { faults_in W.faults writers.new.items ≡ faults_in W.faults writers.old.items }
-    ensures there { connected writers.new.items ≡ connected writers.old.items }
+    ensures there { connections writers.new.items ≡ connections writers.old.items }
     ensures written { texts W.written writers.new.items ≡ texts W.written writers.old.items }
     ensures unshut { (closed : List Bool) → slice_index_or closed p.0 false ≡ true
         → AreOpen W.was_shut closed writers.old.items → AreOpen W.was_shut closed writers.new.items }

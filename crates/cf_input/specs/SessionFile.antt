@@ -93,18 +93,18 @@ is_none [] = true
 is_none (x ∷ xs) = false
 
 -- a line after those of a session: a dial line, or another
-abbrev pub taken_by : Script → List ℕ → Option Dial → Result Script SessionCause
-taken_by s line (Some d) =
+abbrev pub with_line_by : Script → List ℕ → Option Dial → Result Script SessionCause
+with_line_by s line (Some d) =
     if is_none s.deliveries then
     (if nat_le max_dials (length s.dials) then Err ManyDials else Ok (record s { dials = s.dials ++ d ∷ [] }))
     else Err Late
-taken_by s line None =
+with_line_by s line None =
     if is_none s.dials then Err NoDial
     else delivery_of (length s.dials) line >>= λ d. Ok (record s { deliveries = s.deliveries ++ d ∷ [] })
 
 -- a session with one line more: a dial before all deliveries, or a delivery; or why the line is refused
-abbrev pub taken : Script → List ℕ → Result Script SessionCause
-taken s line = taken_by s line (dial_of line)
+abbrev pub with_line : Script → List ℕ → Result Script SessionCause
+with_line s line = with_line_by s line (dial_of line)
 
 -- what a line gives, its fault with the line's number
 abbrev pub at_place : {X : Type 0} → ℕ → Result X SessionCause → Result X SessionFault
@@ -117,7 +117,7 @@ lines_in s = length s.dials + length s.deliveries
 
 -- a line after those of a session, its number counted from 1
 abbrev pub line_after : Script → List ℕ → Result Script SessionFault
-line_after s line = at_place (lines_in s + 1) (taken s line)
+line_after s line = at_place (lines_in s + 1) (with_line s line)
 
 -- a session has a dial
 abbrev pub dialled : Script → Result Script SessionFault

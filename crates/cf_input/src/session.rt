@@ -4,7 +4,7 @@ ghost use Rattle.std.specs.List.{list_all};
 ghost use Rattle.cf_wires.specs.{is_real};
 ghost use Rattle.cf_input.specs.Lines.{GivesRead, GivesAfter};
 ghost use Rattle.cf_input.specs.Name.{is_name};
-ghost use Rattle.cf_input.specs.SessionFile.{max_dials, answer_of, dial_of, peer_of, got_of, gone_of, tick_of, delivery_of, taken, line_after, lines_in, session_of};
+ghost use Rattle.cf_input.specs.SessionFile.{max_dials, answer_of, dial_of, peer_of, got_of, gone_of, tick_of, delivery_of, with_line, line_after, lines_in, session_of};
 ghost use Rattle.cf_input.specs.Sessions.{script_in, AddsLine, AreNamed};
 
 use crate::lines::{cut_at, read_hex};
@@ -176,7 +176,7 @@ fn add_dial(
 // One line more: a dial, or a delivery.
 fn take_line(alloc: Global, session: &mut Session, line: &[u8]) -> Result<(), Refused<SessionCause>>
     requires { length session.old.dials.items ≤ max_dials }
-    ensures exact { GivesAfter (taken (script_in session.old) line.now) result (script_in session.new) }
+    ensures exact { GivesAfter (with_line (script_in session.old) line.now) result (script_in session.new) }
     ensures adds { OnOk result (AddsLine session.old session.new) }
 {
     let dials = session.dials.len() as u32;

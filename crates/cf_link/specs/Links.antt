@@ -42,5 +42,5 @@ abbrev pub can_listen : Bool → List ℕ → Bool
 can_listen listens address = not listens && nat_le (length address) 255
 
 -- the address at which it listens, if it does
-abbrev pub listened : Bool → List ℕ → List (List ℕ)
-listened listens address = if listens then address ∷ [] else []
+abbrev pub listen_addresses : Bool → List ℕ → List (List ℕ)
+listen_addresses listens address = if listens then address ∷ [] else []

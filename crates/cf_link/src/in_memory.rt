@@ -2,7 +2,7 @@
 ghost use Rattle.std.specs.Prelude.{◌≡◌, ◌≤◌, ◌+◌, ◌-◌, ◌↔◌, [], ◌∷◌, ◌++◌, length, take, drop, map, All, Some, IfOk, OnOk, OnErr, IsErr, IsTrue, true, false, nat_lt, vec_len, vec_capacity};
 ghost use Rattle.std.specs.VecDeque.{deque_len};
 ghost use Rattle.cf_bytes.specs.{HasRisen, is_refused, after_call};
-ghost use Rattle.cf_link.specs.Links.{IsFresh, can_listen, listened, longer_by, told_now};
+ghost use Rattle.cf_link.specs.Links.{IsFresh, can_listen, listen_addresses, longer_by, told_now};
 
 use crate::link::Link;
 use cf_bytes::{Failed, Hash32, NoMemory, Plan};
@@ -93,7 +93,7 @@ where
 
     ghost faults = { λ l. l.plan.faults };
 
-    ghost addresses = { λ l. Some (listened l.listens l.address.items) };
+    ghost addresses = { λ l. Some (listen_addresses l.listens l.address.items) };
 
     ghost accepted = { λ l. l.accepted };
 

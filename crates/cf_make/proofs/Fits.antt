@@ -12,7 +12,7 @@ use Rattle.cf_block.specs.declared.header.Header.{Header}
 use Rattle.cf_block.specs.declared.tx.OutPoint.{OutPoint}
 use Rattle.cf_block.specs.declared.tx.Tx.{Tx}
 use Rattle.cf_block.specs.Header.{IsHash, IsHeader, header_spelling}
-use Rattle.cf_block.specs.Merkle.{merkle_root_of, root_within, mutated, mutated_within, txids, None64}
+use Rattle.cf_block.specs.Merkle.{merkle_root_of, root_within, is_mutated, is_mutated_within, txids, None64}
 use Rattle.cf_block.specs.Tx.{IsTx, IsBlock, tx_spelling, block_spelling}
 use Rattle.cf_block.specs.Commitment.{IsCommitted}
 use Rattle.cf_chain.specs.Good.{max_height}
@@ -39,7 +39,7 @@ pub record AreSpelled (ts : List Tx) : Type 0 where
 pub record AreFit (ts : List Tx) : Type 0 where
   pub spelled : AreSpelled ts
   pub none64 : None64 (map tx_spelling ts)
-  pub unmutated : mutated (txids (map tx_spelling ts)) ≡ false
+  pub unmutated : is_mutated (txids (map tx_spelling ts)) ≡ false
 
 apart_64 : (s : List ℕ) (n : ℕ) → length s ≡ n → 64 < n → length s ≢ 64
 apart_64 s n is lt e = absurd (omega (arith, is, lt, e))
@@ -56,12 +56,12 @@ two_size a b is js =
     let f : length (compact 2 ++ (a ++ (b ++ []))) ≡ suc (length (a ++ (b ++ []))) = refl in
     omega (arith, d, e, f, is, js)
 
-one_unmutated : (x : List ℕ) → mutated (x ∷ []) ≡ false
-unfolding mutated_within
+one_unmutated : (x : List ℕ) → is_mutated (x ∷ []) ≡ false
+unfolding is_mutated_within
 one_unmutated x = refl
 
-two_unmutated : (x y : List ℕ) → (x ≡ y → ⊥) → mutated (x ∷ y ∷ []) ≡ false
-unfolding mutated_within
+two_unmutated : (x y : List ℕ) → (x ≡ y → ⊥) → is_mutated (x ∷ y ∷ []) ≡ false
+unfolding is_mutated_within
 two_unmutated x y apart =
     let e : bytes_eq x y ≡ false = elim (bytes_eq x y) as (λ b. bytes_eq x y ≡ b → b ≡ false) [ true ↦ λ e. absurd (apart ((bytes_eq-Decides x y).0 e)) | false ↦ λ e. refl ] refl in
     ap (λ (b : Bool). (b || false) || false) e

@@ -4,15 +4,15 @@ use Rattle.cf_bytes.specs.Outside.{HasRisen}
 use Rattle.cf_conn.specs.Source.{with_front}
 use Rattle.cf_tasks.specs.declared.entry.Item.{Item}
 use Rattle.cf_tasks.specs.Queue.{IsStart}
-use Rattle.cf_outside.specs.declared.entry.Kind.{Kind}
+use Rattle.cf_outside.specs.declared.entry.EntryKind.{EntryKind}
 use Rattle.cf_outside.specs.Pieces.{is_last, joined, is_open, HasLast, Reads}
 use Rattle.cf_outside.proofs.Readers.{joined-append}
 use Rattle.cf_outside.proofs.Lasts.{last_stays}
 
-tail_eq : (x y : Item Kind) (xs ys : List (Item Kind)) → x ∷ xs ≡ y ∷ ys → xs ≡ ys
+tail_eq : (x y : Item EntryKind) (xs ys : List (Item EntryKind)) → x ∷ xs ≡ y ∷ ys → xs ≡ ys
 tail_eq x y xs ys q = ap (drop 1) q
 
-head_eq : (x y : Item Kind) (xs ys : List (Item Kind)) → x ∷ xs ≡ y ∷ ys → x ≡ y
+head_eq : (x y : Item EntryKind) (xs ys : List (Item EntryKind)) → x ∷ xs ≡ y ∷ ys → x ≡ y
 head_eq x y xs ys q = ap (λ l. slice_index_or l 0 x) q
 
 both : (a b : Bool) → a && b ≡ true → (a ≡ true) × (b ≡ true)
@@ -25,7 +25,7 @@ second true b h k = k
 second false b h k = absurd (true≢false (sym h))
 
 -- an open list and one entry: a beginning with a last entry is the whole
-pub whole_with_last : (es : List (Item Kind)) (e : Item Kind) (got rest : List (Item Kind)) → is_open es ≡ true → es ++ e ∷ [] ≡ got ++ rest → is_open got ≡ false → got ≡ es ++ e ∷ []
+pub whole_with_last : (es : List (Item EntryKind)) (e : Item EntryKind) (got rest : List (Item EntryKind)) → is_open es ≡ true → es ++ e ∷ [] ≡ got ++ rest → is_open got ≡ false → got ≡ es ++ e ∷ []
 whole_with_last es e [] rest o q h = absurd (true≢false h)
 whole_with_last [] e (g ∷ []) rest o q h = ap (λ z. z ∷ []) (sym (head_eq e g [] rest q))
 whole_with_last [] e (g ∷ f ∷ gs) rest o q h = let t = tail_eq e g [] (f ∷ gs ++ rest) q in cc
@@ -33,7 +33,7 @@ whole_with_last (x ∷ xs) e (g ∷ gs) rest o q h =
     let t = tail_eq x g (xs ++ e ∷ []) (gs ++ rest) q in
     let hd = head_eq x g (xs ++ e ∷ []) (gs ++ rest) q in
     let o' = both (not (is_last x.kind)) (is_open xs) o in
-    let g' = second (not (is_last g.kind)) (is_open gs) (ap (λ (z : Item Kind). not (is_last z.kind)) (sym hd) ∙ o'.0) h in
+    let g' = second (not (is_last g.kind)) (is_open gs) (ap (λ (z : Item EntryKind). not (is_last z.kind)) (sym hd) ∙ o'.0) h in
     ap (λ z. g ∷ z) (whole_with_last xs e gs rest o'.1 t g') ∙ ap (λ z. z ∷ (xs ++ e ∷ [])) (sym hd)
 
 abbrev is_told : Option (List ℕ) → Bool
@@ -50,7 +50,7 @@ fronts f xs None e = absurd (true≢false (ap is_told e))
 fronts f xs (Some rest) e = (rest, ap told e, refl)
 
 module _ {S : Type 0} (left : S → Option (List ℕ)) (faults : S → ℕ) (ended : S → Bool) where
-  pub first_bytes : (a b : S) (sent got : List (Item Kind)) (xs : List ℕ) → Reads left faults ended a sent b → IsStart got sent → left a ≡ Some xs → IsStart (joined got) xs
+  pub first_bytes : (a b : S) (sent got : List (Item EntryKind)) (xs : List ℕ) → Reads left faults ended a sent b → IsStart got sent → left a ≡ Some xs → IsStart (joined got) xs
   first_bytes a b sent got xs r st t =
       let g = fronts (joined sent ++ r.0) xs (left b) (sym t ∙ r.1) in
       let split : joined sent ≡ joined got ++ joined st.0 = ap joined st.1 ∙ joined-append got st.0 in
@@ -63,7 +63,7 @@ module _ {S : Type 0} (left : S → Option (List ℕ)) (faults : S → ℕ) (end
   at_end : (o : Option (List ℕ)) (rest : List ℕ) → o ≡ Some rest → IfSome o (λ l. l ≡ []) → rest ≡ []
   at_end o rest e h = let P : Option (List ℕ) → Type 0 = λ z. IfSome z (λ l. l ≡ []) in subst P e h
 
-  pub all_bytes : (a b : S) (sent got : List (Item Kind)) (xs : List ℕ) → Reads left faults ended a sent b → IsStart got sent → HasLast got → ¬ HasRisen (faults a) (faults b) → left a ≡ Some xs → joined got ≡ xs
+  pub all_bytes : (a b : S) (sent got : List (Item EntryKind)) (xs : List ℕ) → Reads left faults ended a sent b → IsStart got sent → HasLast got → ¬ HasRisen (faults a) (faults b) → left a ≡ Some xs → joined got ≡ xs
   all_bytes a b sent got xs r st l calm t =
       let g = fronts (joined sent ++ r.0) xs (left b) (sym t ∙ r.1) in
       elim r.2 [

@@ -4,26 +4,26 @@ use Rattle.cf_bytes.specs.Outside.{HasRisen}
 use Rattle.cf_conn.specs.Source.{with_front}
 use Rattle.cf_tasks.specs.declared.entry.Item.{Item}
 use Rattle.cf_tasks.specs.Queue.{entry}
-use Rattle.cf_outside.specs.declared.entry.Kind.{Kind}
-use Rattle.cf_outside.specs.declared.entry.Kind.TheVariants.{Got, Tick, Last}
+use Rattle.cf_outside.specs.declared.entry.EntryKind.{EntryKind}
+use Rattle.cf_outside.specs.declared.entry.EntryKind.TheVariants.{Got, Tick, Last}
 
-abbrev pub bytes_of : Kind → List ℕ
+abbrev pub bytes_of : EntryKind → List ℕ
 bytes_of (Got p) = p
 bytes_of (Tick s) = []
 bytes_of Last = []
 
-abbrev pub is_last : Kind → Bool
+abbrev pub is_last : EntryKind → Bool
 is_last (Got p) = false
 is_last (Tick s) = false
 is_last Last = true
 
 -- the pieces, joined
-abbrev pub joined : List (Item Kind) → List ℕ
+abbrev pub joined : List (Item EntryKind) → List ℕ
 joined [] = []
 joined (e ∷ es) = bytes_of e.kind ++ joined es
 
 -- there is no last entry
-abbrev pub is_open : List (Item Kind) → Bool
+abbrev pub is_open : List (Item EntryKind) → Bool
 is_open [] = true
 is_open (e ∷ es) = not (is_last e.kind) && is_open es
 
@@ -34,7 +34,7 @@ module _ {S : Type 0} (left : S → Option (List ℕ)) where
 
   module _ (faults : S → ℕ) where
     -- one piece was read and sent
-    abbrev pub Goes : ℕ → S → List (Item Kind) → List (Item Kind) → S → Type 0
+    abbrev pub Goes : ℕ → S → List (Item EntryKind) → List (Item EntryKind) → S → Type 0
     Goes p before sent sent' after = (bytes : List ℕ) × (sent' ≡ sent ++ entry p (Got bytes) ∷ []) × Gives before bytes after × (faults after ≡ faults before)
 
     module _ (ended : S → Bool) where
@@ -43,21 +43,21 @@ module _ {S : Type 0} (left : S → Option (List ℕ)) where
       Ends before after = ((ended after ≡ true) × IfSome (left after) (λ bytes. bytes ≡ [])) ⊎ HasRisen (faults before) (faults after)
 
       -- the last entry was sent, or one came back, which was counted
-      abbrev pub Stops : ℕ → S → List (Item Kind) → ℕ → List (Item Kind) → ℕ → S → Type 0
+      abbrev pub Stops : ℕ → S → List (Item EntryKind) → ℕ → List (Item EntryKind) → ℕ → S → Type 0
       Stops p before sent returned sent' returned' after =
           ((sent' ≡ sent ++ entry p Last ∷ []) × Gives before [] after × Ends before after)
           ⊎ ((sent' ≡ sent) × HasRisen returned returned' × ((lost : List ℕ) × Gives before lost after))
 
       -- the pieces are the first bytes that the source gave. A last entry comes only after its end or a fault, with all that it gave, and nothing follows it
-      abbrev pub Reads : S → List (Item Kind) → S → Type 0
+      abbrev pub Reads : S → List (Item EntryKind) → S → Type 0
       Reads before sent after =
           (lost : List ℕ) × Gives before (joined sent ++ lost) after
-          × ((is_open sent ≡ true) ⊎ ((es : List (Item Kind)) × (e : Item Kind) × (sent ≡ es ++ e ∷ []) × (is_open es ≡ true) × (e.kind ≡ Last) × (lost ≡ []) × Ends before after))
+          × ((is_open sent ≡ true) ⊎ ((es : List (Item EntryKind)) × (e : Item EntryKind) × (sent ≡ es ++ e ∷ []) × (is_open es ≡ true) × (e.kind ≡ Last) × (lost ≡ []) × Ends before after))
 
 -- a last entry stands there
-abbrev pub HasLast : List (Item Kind) → Type 0
+abbrev pub HasLast : List (Item EntryKind) → Type 0
 HasLast es = is_open es ≡ false
 
 -- a last entry was sent, or the count of entries that came back has risen
-abbrev pub HasStopped : ℕ → List (Item Kind) → ℕ → Type 0
+abbrev pub HasStopped : ℕ → List (Item EntryKind) → ℕ → Type 0
 HasStopped returned sent returned' = HasLast sent ⊎ HasRisen returned returned'

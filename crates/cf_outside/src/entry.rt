@@ -80,7 +80,7 @@ impl Seconds {
 
 /// What an entry of the queue says.
 #[derive(Drop)]
-pub enum Kind {
+pub enum EntryKind {
     /// Bytes that were read.
     Got(Chunk),
     /// Seconds that have passed.

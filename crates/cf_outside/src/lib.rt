@@ -9,7 +9,7 @@ mod stop;
 mod tcp;
 mod ticker;
 
-pub use entry::{CHUNK, Chunk, Kind, Seconds};
+pub use entry::{CHUNK, Chunk, EntryKind, Seconds};
 pub use outside::{Dialer, Pulse, Writer};
 pub use reader::{Finished, Reader};
 pub use stop::StopFlag;

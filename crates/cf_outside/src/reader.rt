@@ -1,13 +1,13 @@
 //! The task that reads a source and sends its pieces.
 ghost use Rattle.std.specs.Prelude.{◌≡◌, ◌⊎◌, ◌++◌, ◌∷◌, [], true, false, MatchBool};
 ghost use Rattle.cf_bytes.specs.{HasRisen};
-ghost use Rattle.cf_outside.specs.declared.entry.Kind.TheVariants.{Last};
+ghost use Rattle.cf_outside.specs.declared.entry.EntryKind.TheVariants.{Last};
 ghost use Rattle.cf_tasks.specs.{entry};
 ghost use Rattle.crossbeam_channel.specs.Claims.{view};
 ghost use Rattle.crossbeam_channel.specs.Ends.{sends_on};
 ghost use Rattle.cf_outside.specs.Pieces.{Goes, Stops, Reads, HasStopped};
 
-use crate::entry::{CHUNK, Chunk, Kind};
+use crate::entry::{CHUNK, Chunk, EntryKind};
 use cf_conn::Source;
 use cf_tasks::{Sender, Task};
 use std::sync::Wait;
@@ -20,7 +20,7 @@ pub struct Reader<S, R> {
     /// What is read.
     pub source: S,
     /// Where the pieces go.
-    pub sender: Sender<Kind>,
+    pub sender: Sender<EntryKind>,
     pub ghost fresh: { (view sender.seat).sent ≡ [] },
 }
 
@@ -30,23 +30,23 @@ pub struct Finished<S> {
     /// The source.
     pub source: S,
     /// The sender.
-    pub sender: Sender<Kind>,
+    pub sender: Sender<EntryKind>,
 }
 
 // Sends the last entry.
-fn send_last<R: Wait>(rt: &R, sender: &mut Sender<Kind>) -> bool
+fn send_last<R: Wait>(rt: &R, sender: &mut Sender<EntryKind>) -> bool
     ensures ring { (sends_on sender.new.line ≡ sends_on sender.old.line) × (sender.new.number ≡ sender.old.number) }
     ensures stop { result ≡ false }
     ensures last { ((view sender.new.seat).sent ≡ (view sender.old.seat).sent ++ entry sender.old.number Last ∷ [])
         ⊎ (((view sender.new.seat).sent ≡ (view sender.old.seat).sent)
         × HasRisen sender.old.returned sender.new.returned) }
 {
-    let _ = sender.send(rt, Kind::Last);
+    let _ = sender.send(rt, EntryKind::Last);
     false
 }
 
 // Reads one piece and sends it. False where the last entry was sent, or one came back.
-fn read_one<S: Source, R: Wait>(rt: &R, source: &mut S, sender: &mut Sender<Kind>) -> bool
+fn read_one<S: Source, R: Wait>(rt: &R, source: &mut S, sender: &mut Sender<EntryKind>) -> bool
     ensures ring { (sends_on sender.new.line ≡ sends_on sender.old.line) × (sender.new.number ≡ sender.old.number) }
     ensures kept { result ≡ true → sender.new.returned ≡ sender.old.returned }
     ensures step { MatchBool result (Goes S.left S.faults sender.old.number source.old (view sender.old.seat).sent
@@ -57,7 +57,7 @@ fn read_one<S: Source, R: Wait>(rt: &R, source: &mut S, sender: &mut Sender<Kind
     match source.read(&mut buf) {
         Ok(n) => {
             if n > 0 {
-                sender.send(rt, Kind::Got(Chunk::new(buf, n))).is_ok()
+                sender.send(rt, EntryKind::Got(Chunk::new(buf, n))).is_ok()
             } else {
                 send_last(rt, sender)
             }

@@ -6,7 +6,7 @@ ghost use Rattle.crossbeam_channel.specs.Ends.{sends_on};
 ghost use Rattle.cf_outside.specs.Pieces.{HasStopped};
 ghost use Rattle.cf_outside.specs.Ticks.{TicksOn, TicksOff, Ticked, WasTold};
 
-use crate::entry::{Kind, Seconds};
+use crate::entry::{EntryKind, Seconds};
 use crate::outside::Pulse;
 use crate::stop::StopFlag;
 use cf_tasks::{Sender, Task};
@@ -20,7 +20,7 @@ pub struct Ticker<P, R> {
     /// What waits.
     pub pulse: P,
     /// Where the ticks go.
-    pub sender: Sender<Kind>,
+    pub sender: Sender<EntryKind>,
     /// Whether it is to stop.
     pub stop: StopFlag,
     pub ghost fresh: { (view sender.seat).sent ≡ [] },
@@ -33,7 +33,7 @@ pub struct Stopped<P> {
     /// The pulse.
     pub pulse: P,
     /// The sender.
-    pub sender: Sender<Kind>,
+    pub sender: Sender<EntryKind>,
     /// Whether it was told to stop.
     pub stop: StopFlag,
 }
@@ -42,7 +42,7 @@ pub struct Stopped<P> {
 fn tick_one<P: Pulse, R: Wait>(
     rt: &R,
     pulse: &mut P,
-    sender: &mut Sender<Kind>,
+    sender: &mut Sender<EntryKind>,
     stop: &mut StopFlag,
 ) -> bool
     ensures ring { (sends_on sender.new.line ≡ sends_on sender.old.line) × (sender.new.number ≡ sender.old.number) }
@@ -54,10 +54,10 @@ fn tick_one<P: Pulse, R: Wait>(
 {
     let seconds = pulse.wait();
     if stop.is_told() {
-        let _ = sender.send(rt, Kind::Last);
+        let _ = sender.send(rt, EntryKind::Last);
         return false;
     }
-    sender.send(rt, Kind::Tick(Seconds::new(seconds))).is_ok()
+    sender.send(rt, EntryKind::Tick(Seconds::new(seconds))).is_ok()
 }
 
 impl<P: Pulse, R: Wait + Drop> Task for Ticker<P, R> {

@@ -147,18 +147,18 @@ abbrev pub has_filters : ℕ → Bool
 has_filters services = bit_and services 65 == 65
 
 -- it was dialled, and nothing has cut it off
-abbrev pub connected : Trail → Bool
-connected [] = false
-connected (Called ∷ t) = true
-connected (Lost m ∷ t) = false
-connected (_ ∷ t) = connected t
+abbrev pub is_connected : Trail → Bool
+is_connected [] = false
+is_connected (Called ∷ t) = true
+is_connected (Lost m ∷ t) = false
+is_connected (_ ∷ t) = is_connected t
 
 -- the client has sent its version
-abbrev pub greeted : Trail → Bool
-greeted [] = false
-greeted (Called ∷ t) = false
-greeted (Asked m ∷ t) = is_version m || greeted t
-greeted (_ ∷ t) = greeted t
+abbrev pub is_greeted : Trail → Bool
+is_greeted [] = false
+is_greeted (Called ∷ t) = false
+is_greeted (Asked m ∷ t) = is_version m || is_greeted t
+is_greeted (_ ∷ t) = is_greeted t
 
 -- its version has come
 abbrev pub has_version : Trail → Bool
@@ -246,11 +246,11 @@ is_failing mark.SendFailed = true
 is_failing _ = false
 
 -- a send to it has failed since it was dialled
-abbrev pub failed : Trail → Bool
-failed [] = false
-failed (Called ∷ t) = false
-failed (Lost m ∷ t) = is_failing m || failed t
-failed (_ ∷ t) = failed t
+abbrev pub has_failed : Trail → Bool
+has_failed [] = false
+has_failed (Called ∷ t) = false
+has_failed (Lost m ∷ t) = is_failing m || has_failed t
+has_failed (_ ∷ t) = has_failed t
 
 -- what is owed to its messages: one verack to its version, and after that one pong to each ping
 abbrev pub reply_to : Msg → Trail → List Msg
@@ -272,11 +272,11 @@ as_reply (Pong number) = Pong number ∷ []
 as_reply m = []
 
 -- all replies that it was sent, in order
-abbrev pub replied : Trail → List Msg
-replied [] = []
-replied (Called ∷ t) = []
-replied (Asked m ∷ t) = replied t ++ as_reply m
-replied (_ ∷ t) = replied t
+abbrev pub replies_sent : Trail → List Msg
+replies_sent [] = []
+replies_sent (Called ∷ t) = []
+replies_sent (Asked m ∷ t) = replies_sent t ++ as_reply m
+replies_sent (_ ∷ t) = replies_sent t
 
 -- no network address: no services, and zeros for the IP address and the port
 abbrev pub no_address : NetAddress

@@ -12,7 +12,7 @@ ghost use Rattle.cf_msg.specs.declared.msg.Msg.TheVariants.{Inv, Block as BlockM
 ghost use Rattle.cf_lent.specs.{msg_of};
 ghost use Rattle.cf_peer.specs.Trail.{Trail, Said, Passed, is_unknown, own};
 ghost use Rattle.cf_peer.specs.Asking.{request, fetched_by};
-ghost use Rattle.cf_peer.specs.Peer.{Holds, Hears, IsRight, TakesHeaders, calm, called_peer, is_ready_peer, is_idle_peer, is_plain, IsVersionOf, heard_out, heard_up_to, wants, awaits as awaits_block, pinged, asked_for_headers, asked_for_block, asked_for_ping, IsReplySendable};
+ghost use Rattle.cf_peer.specs.Peer.{Holds, Hears, IsRight, TakesHeaders, calm, called_peer, is_ready_peer, is_idle_peer, is_plain, IsVersionOf, heard_out, heard_up_to, wants, awaits as awaits_block, is_pinged as pinged_by, asked_for_headers, asked_for_block, asked_for_ping, IsReplySendable};
 
 use crate::mode::Mode;
 use cf_bytes::{Hash32, Listed};
@@ -220,7 +220,7 @@ impl Peer {
 
     // Whether the `ping` with this number is open to it.
     fn is_pinged(&self, number: u64) -> bool
-        ensures { result ≡ pinged number self.now }
+        ensures { result ≡ pinged_by number self.now }
     {
         match &self.request {
             Request::Ping(wanted, _) => number == *wanted,

@@ -16,8 +16,8 @@ use Rattle.cf_peer.specs.declared.peer.Cause.TheVariants.{Omits}
 use Rattle.cf_peer.specs.declared.peer.Peer.{Peer}
 use Rattle.cf_peer.specs.Acts.{bytes_of, IsSendable}
 use Rattle.cf_wires.specs.Log.{Log, tally_of}
-use Rattle.cf_peer.specs.Trail.{Part, part_of, trail, connected, failed, IsClientVersion}
-use Rattle.cf_peer.specs.Asking.{block_entry, counted, fetched, given}
+use Rattle.cf_peer.specs.Trail.{Part, part_of, trail, is_connected, has_failed, IsClientVersion}
+use Rattle.cf_peer.specs.Asking.{block_entry, counted, fetched_blocks, given_filters}
 use Rattle.cf_peer.specs.Peer.{Holds, calm, busy, wants, is_ready_peer, is_idle_peer}
 use Rattle.cf_sync.specs.Blame.{HasOmitted}
 use Rattle.cf_sync.specs.Fetching.{MaySendIn, DeservesIn, RightlyIn, Rule}
@@ -113,10 +113,10 @@ is_settled mode place = is_calm place && not (is_wanting mode place)
 -- the same log, but that a send to p failed: p's part alone differs, and p is cut off, and isn't one that has omitted something
 pub record CutFor (p : PeerNo) (log cut : Log) : Type 0 where
   pub others : (q : ℕ) → q ≢ p.0 → part_of cut q ≡ part_of log q
-  pub off : connected (trail cut p.0) ≡ false
-  pub broken : failed (trail cut p.0) ≡ true
-  pub brought : fetched (counted (trail cut p.0)) ≡ fetched (counted (trail log p.0))
-  pub came : given (counted (trail cut p.0)) ≡ given (counted (trail log p.0))
+  pub off : is_connected (trail cut p.0) ≡ false
+  pub broken : has_failed (trail cut p.0) ≡ true
+  pub brought : fetched_blocks (counted (trail cut p.0)) ≡ fetched_blocks (counted (trail log p.0))
+  pub came : given_filters (counted (trail cut p.0)) ≡ given_filters (counted (trail log p.0))
   pub gave : IsSameGiven log cut
   pub tests : KeepsTrials log cut
   pub omitted : (q : ℕ) → q ≢ p.0 → HasOmitted log q → HasOmitted cut q

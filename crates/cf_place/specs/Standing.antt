@@ -9,11 +9,11 @@ use Rattle.cf_peer.specs.declared.peer.Cause.TheVariants.{SendFailed, Omits}
 use Rattle.cf_wires.specs.declared.event.Mark.{Mark}
 use Rattle.cf_wires.specs.declared.event.Mark.TheVariants as mark
 use Rattle.cf_wires.specs.Log.{Log, tally_of}
-use Rattle.cf_peer.specs.Trail.{Trail, Called, Said, Refused, Asked, Passed, Lost as LostItem, trail, connected, ready, failed, replies_owed, replied, is_version, IsClientVersion}
-use Rattle.cf_peer.specs.Asking.{Deserves, claims, counted, given}
+use Rattle.cf_peer.specs.Trail.{Trail, Called, Said, Refused, Asked, Passed, Lost as LostItem, trail, is_connected, ready, has_failed, replies_owed, replies_sent, is_version, IsClientVersion}
+use Rattle.cf_peer.specs.Asking.{Deserves, claims, counted, given_filters}
 use Rattle.cf_sync.specs.Blame.{HasOmitted}
 use Rattle.cf_sync.specs.Fetching.{IsBusy, IsQuiet, IsConnected, IsOmitting, RightlyIn}
-use Rattle.cf_sync.specs.Honesty.{asked, was_called}
+use Rattle.cf_sync.specs.Honesty.{messages_asked, was_called}
 use Rattle.cf_place.specs.declared.place.Loss.{Loss}
 use Rattle.cf_place.specs.declared.place.Loss.TheVariants.{NotDialled, Gone, Closed as ClosedFor}
 use Rattle.cf_place.specs.declared.place.PeerEnd.{PeerEnd}
@@ -29,14 +29,14 @@ IsGreetedBy (m ∷ more) = IsClientVersion m × (list_any is_version more ≡ fa
 -- A peer was sent the client's version before all else, and no other version; and what is owed to its messages: a verack, and a pong for
 -- each ping after its version, in order.
 pub record IsAnswered (t : Trail) : Type 0 where
-  pub greeted : IsGreetedBy (asked t)
-  pub replies : replied t ≡ replies_owed t
+  pub greeted : IsGreetedBy (messages_asked t)
+  pub replies : replies_sent t ≡ replies_owed t
 
 -- the first loss since a peer was dialled, by how it was lost and what had passed before
 abbrev pub FirstLost : (Mark → Trail → Type 0) → Trail → Type 0
 FirstLost P [] = ⊥
 FirstLost P (Called ∷ t) = ⊥
-FirstLost P (LostItem m ∷ t) = ((connected t ≡ true) × P m t) ⊎ ((connected t ≡ false) × FirstLost P t)
+FirstLost P (LostItem m ∷ t) = ((is_connected t ≡ true) × P m t) ⊎ ((is_connected t ≡ false) × FirstLost P t)
 FirstLost P (_ ∷ t) = FirstLost P t
 
 -- it went, or was never there: it wasn't closed, and no send to it failed
@@ -52,29 +52,29 @@ IsShutFor cause _ t = ⊥
 
 -- how a peer was lost: it was never called; a send to it failed; or none did, and before all else it went or was closed
 abbrev pub LostBy : Loss → Trail → Type 0
-LostBy NotDialled t = (was_called t ≡ false) × (failed t ≡ false)
-LostBy Gone t = (failed t ≡ false) × FirstLost IsGoing t
-LostBy (ClosedFor cause) t = ((cause ≡ SendFailed) × (failed t ≡ true)) ⊎ ((failed t ≡ false) × FirstLost (IsShutFor cause) t)
+LostBy NotDialled t = (was_called t ≡ false) × (has_failed t ≡ false)
+LostBy Gone t = (has_failed t ≡ false) × FirstLost IsGoing t
+LostBy (ClosedFor cause) t = ((cause ≡ SendFailed) × (has_failed t ≡ true)) ⊎ ((has_failed t ≡ false) × FirstLost (IsShutFor cause) t)
 
 -- a peer isn't connected, and was lost so
 pub record IsLost (loss : Loss) (t : Trail) : Type 0 where
-  pub off : connected t ≡ false
+  pub off : is_connected t ≡ false
   pub by : LostBy loss t
 
 -- unless a send to it has failed, each reply that is owed to what counts of its words was sent
 abbrev pub IsReplied : Trail → Type 0
-IsReplied t = failed t ≡ false → replied t ≡ replies_owed (counted t)
+IsReplied t = has_failed t ≡ false → replies_sent t ≡ replies_owed (counted t)
 
 -- a peer's part up to a moment after which it gave no filter and claimed nothing
 pub record IsUpToLast (t so_far : Trail) : Type 0 where
   pub later : Trail
   pub joined : t ≡ later ++ so_far
-  pub gave : given (counted t) ≡ given (counted so_far)
+  pub gave : given_filters (counted t) ≡ given_filters (counted so_far)
   pub claimed : claims (counted t) ≡ claims (counted so_far)
 
 -- unless a send to it has failed, each reply that is owed to what counts of its words up to such a moment was sent
 abbrev pub IsRepliedFirst : Trail → Type 0
-IsRepliedFirst t = failed t ≡ false → (so_far : Trail) × IsUpToLast t so_far × (replied t ≡ replies_owed (counted so_far))
+IsRepliedFirst t = has_failed t ≡ false → (so_far : Trail) × IsUpToLast t so_far × (replies_sent t ≡ replies_owed (counted so_far))
 
 -- who is closed was answered; who omits something, up to the words that exposed it
 abbrev pub IsRepliedIn : Log → ℕ → Type 0
@@ -89,7 +89,7 @@ IsNamed log p cause = RightlyIn Following log → IsOmitting log p → cause ≡
 abbrev pub IsState : State → Log → Type 0
 IsState Working log = IsBusy log
 IsState Synced log = IsQuiet log × ((p : ℕ) × IsConnected log p)
-IsState NoPeers log = (p : ℕ) → connected (trail log p) ≡ false
+IsState NoPeers log = (p : ℕ) → is_connected (trail log p) ≡ false
 
 -- what a version tells of the client: its moment and its number
 pub record Greeting : Type 0 where
@@ -103,8 +103,8 @@ TellsGreeting words m = Unit {0}
 
 -- what an end says of a peer's trail: connected with its handshake over, connected with its handshake open, or how it was lost
 abbrev pub EndTells : PeerEnd → Trail → Type 0
-EndTells Ready t = (connected t ≡ true) × (ready t ≡ true)
-EndTells Waiting t = (connected t ≡ true) × (ready t ≡ false)
+EndTells Ready t = (is_connected t ≡ true) × (ready t ≡ true)
+EndTells Waiting t = (is_connected t ≡ true) × (ready t ≡ false)
 EndTells EndsNotDialled t = IsLost NotDialled t
 EndTells EndsGone t = IsLost Gone t
 EndTells (EndsClosed cause) t = IsLost (ClosedFor cause) t

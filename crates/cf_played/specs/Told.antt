@@ -5,7 +5,7 @@ use Rattle.cf_bytes.specs.declared.memory.Refused.{Refused}
 use Rattle.cf_bytes.specs.declared.memory.Refused.TheVariants.{No, NoMemory}
 use Rattle.cf_walk.specs.declared.cause.BadBlock.{BadBlock}
 use Rattle.cf_chain.specs.Good.{IsGoodChain}
-use Rattle.cf_played.specs.declared.kind.Kind.{Kind}
+use Rattle.cf_played.specs.declared.kind.Manner.{Manner}
 use Rattle.cf_played.specs.Ways.{way_of}
 use Rattle.cf_played.specs.declared.played.Played.{Played}
 use Rattle.cf_played.specs.Peers.{Peer, shown}
@@ -32,7 +32,7 @@ abbrev pub peers_of : Played → List Peer
 peers_of w = map shown w.players.items
 
 -- a peer was added whose chain is this one, if it is good
-pub record HasAdded (chain : List Block) (kind : Kind) (old new : List Peer) : Type 0 where
+pub record HasAdded (chain : List Block) (kind : Manner) (old new : List Peer) : Type 0 where
   pub blocks : List Block
   pub good : IsGoodChain blocks
   pub same : IsGoodChain chain → blocks ≡ chain

@@ -4,7 +4,7 @@ use cf_bytes::Listed;
 
 /// How a peer in memory answers.
 #[derive(Drop, Debug)]
-pub enum Kind {
+pub enum Manner {
     /// As the serving machine of its chain does.
     Honest,
     /// As an honest one, but its filters, their hashes and their headers are made without these scripts, at every

@@ -13,6 +13,6 @@ mod player;
 mod turns;
 mod waiting;
 
-pub use kind::{Kind, Way};
+pub use kind::{Manner, Way};
 pub use laws::laws_of_made_files;
 pub use played::Played;

@@ -13,7 +13,7 @@ ghost use Rattle.cf_played.specs.Turns.{last_served};
 ghost use Rattle.cf_played.specs.Ways.{way_of};
 
 use crate::checking::checked;
-use crate::kind::{Kind, Way};
+use crate::kind::{Manner, Way};
 use crate::omitting::filters_without;
 use crate::player::Player;
 use crate::turns::next_turn;
@@ -60,7 +60,7 @@ fn new_player(
     rt: &(impl Threads + Sync),
     alloc: Global,
     chain: CheckedChain,
-    kind: Kind,
+    kind: Manner,
 ) -> Result<Player, NoMemory>
     ensures blocks { IfOk result (λ player. player.index ≡ chain) }
     ensures way { IfOk result (λ player. player.way ≡ way_of kind) }
@@ -68,13 +68,13 @@ fn new_player(
     ensures none { IfOk result (λ player. player.waiting ≡ []) }
 {
     let way = match &kind {
-        Kind::Honest => Way::Honest,
-        Kind::Silent => Way::Silent,
-        Kind::Omits(_) => Way::Omits,
+        Manner::Honest => Way::Honest,
+        Manner::Silent => Way::Silent,
+        Manner::Omits(_) => Way::Omits,
     };
     let filters = match &kind {
-        Kind::Honest | Kind::Silent => Listed::new(alloc),
-        Kind::Omits(scripts) => filters_without(alloc, &chain, scripts.as_slice())?,
+        Manner::Honest | Manner::Silent => Listed::new(alloc),
+        Manner::Omits(scripts) => filters_without(alloc, &chain, scripts.as_slice())?,
     };
     let index = Index::of(rt, alloc, chain)?;
     Ok(Player {
@@ -191,7 +191,7 @@ impl Played {
         &mut self,
         rt: &(impl Threads + Sync),
         chain: &Chain,
-        kind: Kind,
+        kind: Manner,
     ) -> Result<(), Refused<BadBlock>>
         requires new { log_of self.old ≡ [] }
         requires few { length (peers_of self.old) < 8 }

@@ -8,7 +8,7 @@ use Rattle.std.proofs.lemmas.Nat.{shr-shr, pow_pos}
 use Rattle.std.proofs.Math.Nat.{two-pow-succ, div-mul-le_self}
 use Rattle.cf_bytes.specs.Hash.{hash_of}
 use Rattle.cf_block.proofs.Roots.{mutated_up}
-use Rattle.cf_block.specs.Merkle.{next_level, has_twins, mutated, Among}
+use Rattle.cf_block.specs.Merkle.{next_level, has_twins, is_mutated, Among}
 use Rattle.cf_proof.specs.Tree.{is_there, level_at, node_at}
 use Rattle.cf_proof.specs.Walk.{Walked, with_hash, with_both, with_left, walk}
 use Rattle.cf_proof.specs.Made.{Parts, joined_parts, one_child, parts_of}
@@ -19,13 +19,13 @@ at_least : (m : ℕ) (l : List (List ℕ)) → 2 ≤ length (level_at (suc m) l)
 at_least m l two = elim (cases_lt (length l) 2) [ inl few ↦ absurd (omega (arith, few_above (suc m) l (omega arith))) | inr many ↦ many ]
 
 -- a tree that isn't doubled has no equal children
-level_clean : (m : ℕ) (l : List (List ℕ)) → mutated l ≡ false → 2 ≤ length (level_at m l) → has_twins (level_at m l) ≡ false
+level_clean : (m : ℕ) (l : List (List ℕ)) → is_mutated l ≡ false → 2 ≤ length (level_at m l) → has_twins (level_at m l) ≡ false
 unfolding level_at
-level_clean zero l clean two = (or_parts (has_twins l) (mutated (next_level l)) (sym (mutated_up l two) ∙ clean)).0
+level_clean zero l clean two = (or_parts (has_twins l) (is_mutated (next_level l)) (sym (mutated_up l two) ∙ clean)).0
 level_clean (suc m) l clean two =
     let shifted : level_at m (next_level l) ≡ level_at (suc m) l = level_shift m l in
     let many : 2 ≤ length l = at_least m l two in
-    let above : mutated (next_level l) ≡ false = (or_parts (has_twins l) (mutated (next_level l)) (sym (mutated_up l many) ∙ clean)).1 in
+    let above : is_mutated (next_level l) ≡ false = (or_parts (has_twins l) (is_mutated (next_level l)) (sym (mutated_up l many) ∙ clean)).1 in
     subst (λ s. has_twins s ≡ false) shifted (level_clean m (next_level l) above (subst (λ s. 2 ≤ length s) (sym shifted) two))
 
 no_pair : (l : List (List ℕ)) (q : ℕ) → has_twins l ≡ false → 2 * q + 1 < length l → pointwise nat_eq (get_or l (2 * q) []) (get_or l (2 * q + 1) []) ≡ false
@@ -100,7 +100,7 @@ walk_one l leaf n p a more others lt there left =
       ];
     }
 
-walk_both : (l : List (List ℕ)) (leaf n p : ℕ) (a b : Parts) (more : List Bool) (others : List (List ℕ)) → mutated l ≡ false → is_there (length l) n (2 * p + 1) ≡ true
+walk_both : (l : List (List ℕ)) (leaf n p : ℕ) (a b : Parts) (more : List Bool) (others : List (List ℕ)) → is_mutated l ≡ false → is_there (length l) n (2 * p + 1) ≡ true
     → IsWalkOf l leaf n (2 * p) (a.bits ++ (b.bits ++ more)) (b.bits ++ more) (a.hashes ++ (b.hashes ++ others)) (b.hashes ++ others)
     → IsWalkOf l leaf n (2 * p + 1) (b.bits ++ more) more (b.hashes ++ others) others → IsWalkOf l leaf (suc n) p ((joined_parts a b).bits ++ more) more ((joined_parts a b).hashes ++ others) others
 unfolding walk with_both
@@ -124,7 +124,7 @@ walk_both l leaf n p a b more others clean there left right =
       ];
     }
 
-pub made_walk : (l : List (List ℕ)) (leaf n p : ℕ) (more : List Bool) (others : List (List ℕ)) → mutated l ≡ false → p * 2 ^ n < length l
+pub made_walk : (l : List (List ℕ)) (leaf n p : ℕ) (more : List Bool) (others : List (List ℕ)) → is_mutated l ≡ false → p * 2 ^ n < length l
     → IsWalkOf l leaf n p ((parts_of l leaf n p).bits ++ more) more ((parts_of l leaf n p).hashes ++ others) others
 unfolding parts_of
 made_walk l leaf zero p more others clean lt = walk_leaf l leaf p more others

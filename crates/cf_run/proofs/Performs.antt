@@ -22,9 +22,9 @@ use Rattle.cf_wires.specs.declared.event.Mark.TheVariants as mark
 use Rattle.cf_peer.specs.declared.peer.Cause.{Cause}
 use Rattle.cf_peer.specs.Acts.{bytes_of}
 use Rattle.cf_wires.specs.Log.{Log, Told, Tells, tally_of, noted, tell, longer}
-use Rattle.cf_peer.specs.Trail.{Trail, Part, Item, Asked, Lost, spelled, asks, with_item, part_of, trail, went_on, connected, failed, is_failing}
+use Rattle.cf_peer.specs.Trail.{Trail, Part, Item, Asked, Lost, spelled, asks, with_item, part_of, trail, went_on, is_connected, has_failed, is_failing}
 use Rattle.cf_dispute.specs.Claims.{Table}
-use Rattle.cf_peer.specs.Asking.{counted, fetched, given, MayAskIn, MayPing}
+use Rattle.cf_peer.specs.Asking.{counted, fetched_blocks, given_filters, MayAskIn, MayPing}
 use Rattle.cf_peer.specs.declared.mode.Mode.{Mode}
 use Rattle.cf_peer.specs.declared.mode.Mode.TheVariants.{Once, Following}
 use Rattle.cf_headers.specs.declared.store.HeaderStore.{Ghosts}
@@ -80,22 +80,22 @@ not_fine Pending h = refl
 not_fine Known h = absurd (false≢true h)
 
 -- what an entry changes of a peer's part
-asked_connected : (b : Bool) (o : Option Msg) (part : Part) → connected (if b then record part { trail = asks o part.trail } else part).trail ≡ connected part.trail
+asked_connected : (b : Bool) (o : Option Msg) (part : Part) → is_connected (if b then record part { trail = asks o part.trail } else part).trail ≡ is_connected part.trail
 asked_connected true None part = refl
 asked_connected true (Some m) part = refl
 asked_connected false o part = refl
 
-asked_failed : (b : Bool) (o : Option Msg) (part : Part) → failed (if b then record part { trail = asks o part.trail } else part).trail ≡ failed part.trail
+asked_failed : (b : Bool) (o : Option Msg) (part : Part) → has_failed (if b then record part { trail = asks o part.trail } else part).trail ≡ has_failed part.trail
 asked_failed true None part = refl
 asked_failed true (Some m) part = refl
 asked_failed false o part = refl
 
-asked_brought : (b : Bool) (o : Option Msg) (part : Part) → fetched (counted (if b then record part { trail = asks o part.trail } else part).trail) ≡ fetched (counted part.trail)
+asked_brought : (b : Bool) (o : Option Msg) (part : Part) → fetched_blocks (counted (if b then record part { trail = asks o part.trail } else part).trail) ≡ fetched_blocks (counted part.trail)
 asked_brought true None part = refl
 asked_brought true (Some m) part = refl
 asked_brought false o part = refl
 
-asked_came : (b : Bool) (o : Option Msg) (part : Part) → given (counted (if b then record part { trail = asks o part.trail } else part).trail) ≡ given (counted part.trail)
+asked_came : (b : Bool) (o : Option Msg) (part : Part) → given_filters (counted (if b then record part { trail = asks o part.trail } else part).trail) ≡ given_filters (counted part.trail)
 asked_came true None part = refl
 asked_came true (Some m) part = refl
 asked_came false o part = refl
@@ -105,15 +105,15 @@ asked_alike : (b : Bool) (o : Option Msg) (t u : Part) → Alike t u
 asked_alike b o t u (inl same) = inl (ap (λ (x : Part). if b then record x { trail = asks o x.trail } else x) same)
 asked_alike b o t u (inr off) = inr (asked_connected b o t ∙ off.0, asked_connected b o u ∙ off.1, asked_failed b o t ∙ off.2, asked_failed b o u ∙ off.3, asked_brought b o t ∙ off.4 ∙ sym (asked_brought b o u), asked_came b o t ∙ off.5 ∙ sym (asked_came b o u))
 
-pub lost_off : (b : Bool) (m : Mark) (part : Part) → connected part.trail ≡ false → connected (if b then with_item (Lost m) part else part).trail ≡ false
+pub lost_off : (b : Bool) (m : Mark) (part : Part) → is_connected part.trail ≡ false → is_connected (if b then with_item (Lost m) part else part).trail ≡ false
 lost_off true m part off = refl
 lost_off false m part off = off
 
-lost_brought : (b : Bool) (m : Mark) (part : Part) → fetched (counted (if b then with_item (Lost m) part else part).trail) ≡ fetched (counted part.trail)
+lost_brought : (b : Bool) (m : Mark) (part : Part) → fetched_blocks (counted (if b then with_item (Lost m) part else part).trail) ≡ fetched_blocks (counted part.trail)
 lost_brought true m part = refl
 lost_brought false m part = refl
 
-lost_came : (b : Bool) (m : Mark) (part : Part) → given (counted (if b then with_item (Lost m) part else part).trail) ≡ given (counted part.trail)
+lost_came : (b : Bool) (m : Mark) (part : Part) → given_filters (counted (if b then with_item (Lost m) part else part).trail) ≡ given_filters (counted part.trail)
 lost_came true m part = refl
 lost_came false m part = refl
 
@@ -122,7 +122,7 @@ any_failing : (b : Bool) → (b || true) ≡ true
 any_failing true = refl
 any_failing false = refl
 
-failed_still : (b : Bool) (m : Mark) (part : Part) → failed part.trail ≡ true → failed (if b then with_item (Lost m) part else part).trail ≡ true
+failed_still : (b : Bool) (m : Mark) (part : Part) → has_failed part.trail ≡ true → has_failed (if b then with_item (Lost m) part else part).trail ≡ true
 failed_still true m part off = ap (λ (x : Bool). is_failing m || x) off ∙ any_failing (is_failing m)
 failed_still false m part off = off
 
@@ -131,26 +131,26 @@ lost_alike b m t u (inl same) = inl (ap (λ (x : Part). if b then with_item (Los
 lost_alike b m t u (inr off) = inr (lost_off b m t off.0, lost_off b m u off.1, failed_still b m t off.2, failed_still b m u off.3, lost_brought b m t ∙ off.4 ∙ sym (lost_brought b m u), lost_came b m t ∙ off.5 ∙ sym (lost_came b m u))
 
 -- an entry that brings nothing
-pub sent_brought : (p : PeerNo) (bytes : List ℕ) (log : Log) (q : ℕ) → fetched (counted_part (Sent p bytes ∷ log) q) ≡ fetched (counted_part log q)
+pub sent_brought : (p : PeerNo) (bytes : List ℕ) (log : Log) (q : ℕ) → fetched_blocks (counted_part (Sent p bytes ∷ log) q) ≡ fetched_blocks (counted_part log q)
 sent_brought p bytes log q = asked_brought (p.0 == q) (spelled bytes) (part_of log q)
 
-pub closed_brought : (p : PeerNo) (log : Log) (q : ℕ) → fetched (counted_part (Closed p ∷ log) q) ≡ fetched (counted_part log q)
+pub closed_brought : (p : PeerNo) (log : Log) (q : ℕ) → fetched_blocks (counted_part (Closed p ∷ log) q) ≡ fetched_blocks (counted_part log q)
 closed_brought p log q = lost_brought (p.0 == q) mark.Closed (part_of log q)
 
-pub failing_brought : (p : PeerNo) (log : Log) (q : ℕ) → fetched (counted_part (SendFailed p ∷ log) q) ≡ fetched (counted_part log q)
+pub failing_brought : (p : PeerNo) (log : Log) (q : ℕ) → fetched_blocks (counted_part (SendFailed p ∷ log) q) ≡ fetched_blocks (counted_part log q)
 failing_brought p log q = lost_brought (p.0 == q) mark.SendFailed (part_of log q)
 
 -- nor a filter
-pub sent_came : (p : PeerNo) (bytes : List ℕ) (log : Log) (q : ℕ) → given (counted_part (Sent p bytes ∷ log) q) ≡ given (counted_part log q)
+pub sent_came : (p : PeerNo) (bytes : List ℕ) (log : Log) (q : ℕ) → given_filters (counted_part (Sent p bytes ∷ log) q) ≡ given_filters (counted_part log q)
 sent_came p bytes log q = asked_came (p.0 == q) (spelled bytes) (part_of log q)
 
-pub closed_came : (p : PeerNo) (log : Log) (q : ℕ) → given (counted_part (Closed p ∷ log) q) ≡ given (counted_part log q)
+pub closed_came : (p : PeerNo) (log : Log) (q : ℕ) → given_filters (counted_part (Closed p ∷ log) q) ≡ given_filters (counted_part log q)
 closed_came p log q = lost_came (p.0 == q) mark.Closed (part_of log q)
 
-pub failing_came : (p : PeerNo) (log : Log) (q : ℕ) → given (counted_part (SendFailed p ∷ log) q) ≡ given (counted_part log q)
+pub failing_came : (p : PeerNo) (log : Log) (q : ℕ) → given_filters (counted_part (SendFailed p ∷ log) q) ≡ given_filters (counted_part log q)
 failing_came p log q = lost_came (p.0 == q) mark.SendFailed (part_of log q)
 
-pub sent_connected : (p : PeerNo) (bytes : List ℕ) (q : ℕ) (part : Part) → connected (went_on (Sent p bytes) q part).trail ≡ connected part.trail
+pub sent_connected : (p : PeerNo) (bytes : List ℕ) (q : ℕ) (part : Part) → is_connected (went_on (Sent p bytes) q part).trail ≡ is_connected part.trail
 sent_connected p bytes q part = asked_connected (p.0 == q) (spelled bytes) part
 
 -- nobody else's part changes
@@ -201,11 +201,11 @@ closes_here p cause acts q e = grind (arith, common_steps)
 closes_others : (p : PeerNo) (cause : Cause) (acts : List Act) (q : ℕ) → q ≢ p.0 → list_any (closes q) (Close p cause ∷ acts) ≡ list_any (closes q) acts
 closes_others p cause acts q ne = grind (arith, common_steps)
 
-pinged_on : (mode : Mode) (t : Trail) (number : ℕ) → MayPing mode t number → connected t ≡ true
+pinged_on : (mode : Mode) (t : Trail) (number : ℕ) → MayPing mode t number → is_connected t ≡ true
 pinged_on Once t number h = absurd h
 pinged_on Following t number h = h.0.on
 
-asked_on : (mode : Mode) (t : Trail) (m : Msg) → MayAskIn mode t m → connected t ≡ true
+asked_on : (mode : Mode) (t : Trail) (m : Msg) → MayAskIn mode t m → is_connected t ≡ true
 asked_on mode t (Version version services time to from nonce agent height relay) h = h.0
 asked_on mode t Verack h = h.0
 asked_on mode t (Ping n) h = pinged_on mode t n h
@@ -225,19 +225,19 @@ asked_on mode t (Other command payload) h = absurd h
 
 -- a connected peer, by the plan, whose failed send isn't pending has had none that isn't told
 known_told : {rule : Rule} (acts : List Act) (progress : Progress) (called : List (List ℕ)) (planned : Log) (t : Told) (p : ℕ)
-    → is_pending (state_at progress.sends p) ≡ false → connected (trail planned p) ≡ true → (doing : Doing rule acts progress called planned t) → is_untold doing.actual p ≡ false
+    → is_pending (state_at progress.sends p) ≡ false → is_connected (trail planned p) ≡ true → (doing : Doing rule acts progress called planned t) → is_untold doing.actual p ≡ false
 known_told acts progress called planned t p free on doing = elim (cases_Bool (is_untold doing.actual p)) [
-  | inl untold ↦ absurd (both_ways (connected (trail planned p)) (doing.known p untold free).0 on)
+  | inl untold ↦ absurd (both_ways (is_connected (trail planned p)) (doing.known p untold free).0 on)
   | inr told ↦ told
 ]
 
 -- who is connected has the part that was planned
-pub connected_same : {rule : Rule} (acts : List Act) (progress : Progress) (called : List (List ℕ)) (planned : Log) (t : Told) → (doing : Doing rule acts progress called planned t) → (q : ℕ) → connected (trail doing.actual q) ≡ true → part_of planned q ≡ part_of doing.actual q
+pub connected_same : {rule : Rule} (acts : List Act) (progress : Progress) (called : List (List ℕ)) (planned : Log) (t : Told) → (doing : Doing rule acts progress called planned t) → (q : ℕ) → is_connected (trail doing.actual q) ≡ true → part_of planned q ≡ part_of doing.actual q
 connected_same acts progress called planned t doing q on = elim (cases_Bool (is_untold doing.actual q)) [
-  | inl untold ↦ absurd (both_ways (connected (trail doing.actual q)) (doing.broken q untold).0 on)
+  | inl untold ↦ absurd (both_ways (is_connected (trail doing.actual q)) (doing.broken q untold).0 on)
   | inr told ↦ elim (doing.plan.told q told) [
     | inl same ↦ same
-    | inr off ↦ absurd (both_ways (connected (trail doing.actual q)) off.1 on)
+    | inr off ↦ absurd (both_ways (is_connected (trail doing.actual q)) off.1 on)
   ]
 ]
 
@@ -254,7 +254,7 @@ skipped : {rule : Rule} (a : Act) (acts : List Act) (progress : Progress) (calle
     → ((more : Trail) → IsMeant more → IsMeant (i ∷ more))
     → ((q : ℕ) → q ≢ p → list_any (closes q) (a ∷ acts) ≡ list_any (closes q) acts)
     → (noted e (tally_of planned)).dials ≡ (tally_of planned).dials
-    → ((q : ℕ) → fetched (counted_part (e ∷ planned) q) ≡ fetched (counted_part planned q)) → ((q : ℕ) → given (counted_part (e ∷ planned) q) ≡ given (counted_part planned q))
+    → ((q : ℕ) → fetched_blocks (counted_part (e ∷ planned) q) ≡ fetched_blocks (counted_part planned q)) → ((q : ℕ) → given_filters (counted_part (e ∷ planned) q) ≡ given_filters (counted_part planned q))
     → ((job : Job) → IsTested (e ∷ planned) job → IsTested planned job) → IsSameGiven (e ∷ planned) planned
     → ((q : ℕ) (block : Hash) → q ≢ p → IsSameTest (e ∷ planned) planned q block)
     → ((q : ℕ) → q ≢ p → HasOmitted (e ∷ planned) q → HasOmitted planned q)
@@ -303,7 +303,7 @@ skipped a acts progress called planned t p e i is others here meant unclosed dia
       broken = doing.broken;
       known = λ q untold free. elim (cases_eq q p) [
         | inl same ↦ absurd (both_ways (is_pending (state_at progress.sends q)) free (it q same))
-        | inr ne ↦ subst (λ (x : Part). (connected x.trail ≡ false) × (failed x.trail ≡ true)) (sym (others q ne)) (doing.known q untold free)
+        | inr ne ↦ subst (λ (x : Part). (is_connected x.trail ≡ false) × (has_failed x.trail ≡ true)) (sym (others q ne)) (doing.known q untold free)
       ];
     }
 
@@ -342,7 +342,7 @@ pub sent_on : {rule : Rule} (acts : List Act) (progress : Progress) (trace : Vec
 sent_on {rule = rule} acts progress trace called planned t p m command free line is may doing =
     let bytes = bytes_of m in
     let spells : spelled bytes ≡ Some m = spelled_bytes m may.1 in
-    let on : connected (trail planned p.0) ≡ true = asked_on rule.mode (trail planned p.0) m may.2.of_its_part in
+    let on : is_connected (trail planned p.0) ≡ true = asked_on rule.mode (trail planned p.0) m may.2.of_its_part in
     let told : is_untold doing.actual p.0 ≡ false = known_told (Send p m ∷ acts) progress called planned t p.0 free on doing in
     let same : part_of planned p.0 ≡ part_of doing.actual p.0 = planned_part planned doing.actual p.0 doing.plan told on in
     let other : (q : ℕ) → is_untold doing.actual q ≡ true → q ≢ p.0 = λ q untold e. both_ways (is_untold doing.actual q) (ap (is_untold doing.actual) e ∙ told) untold in
@@ -416,11 +416,11 @@ closed_on acts progress trace called planned t p cause free line may doing =
       | inr told ↦ deserved_in planned doing.actual p.0 cause (doing.plan.told p.0 told) doing.brought doing.plan.tested may.1
     ] in
     let replied_all : IsRepliedIn doing.actual p.0 = elim (cases_Bool (is_untold doing.actual p.0)) [
-      | inl untold ↦ inl (λ sound. absurd (both_ways (failed (trail doing.actual p.0)) sound (doing.broken p.0 untold).1))
+      | inl untold ↦ inl (λ sound. absurd (both_ways (has_failed (trail doing.actual p.0)) sound (doing.broken p.0 untold).1))
       | inr told ↦ replied_in planned doing.actual p.0 (doing.plan.told p.0 told) doing.brought doing.plan.tested may.2
     ] in
     let is_named : IsNamed doing.actual p.0 cause = λ right omits. elim (cases_Bool (is_untold doing.actual p.0)) [
-      | inl untold ↦ absurd (both_ways (connected (trail doing.actual p.0)) (doing.broken p.0 untold).0 omits.there)
+      | inl untold ↦ absurd (both_ways (is_connected (trail doing.actual p.0)) (doing.broken p.0 untold).0 omits.there)
       | inr told ↦ may.3 doing.rightly
           (omits_planned planned doing.actual p.0 (doing.plan.told p.0 told) doing.brought doing.plan.tests omits)
     ] in
@@ -444,7 +444,7 @@ closed_on acts progress trace called planned t p cause free line may doing =
         named = doing.notes.named;
         off = λ q not_it. lost_off (p.0 == q) mark.Closed (part_of doing.actual q) (doing.notes.off q not_it);
         shut = λ q it. elim (cases_eq q p.0) [
-          | inl e ↦ (ap (λ (x : Part). connected x.trail) (closed_here p q (part_of doing.actual q) e), untold_closed_here p doing.actual q e)
+          | inl e ↦ (ap (λ (x : Part). is_connected x.trail) (closed_here p q (part_of doing.actual q) e), untold_closed_here p doing.actual q e)
           | inr ne ↦ let s = doing.notes.shut q (sym (get_or-set_other progress.closed p.0 q true false ne) ∙ it) in
               (lost_off (p.0 == q) mark.Closed (part_of doing.actual q) s.0, untold_closed_others p doing.actual q ne ∙ s.1)
         ];
@@ -477,7 +477,7 @@ closed_on acts progress trace called planned t p cause free line may doing =
         aims = λ q fine on block. elim (cases_Bool (is_untold doing.actual q)) [
           | inl untold ↦
               let e : q ≡ p.0 = elim (cases_eq q p.0) [ inl e ↦ e | inr ne ↦ absurd (both_ways (is_untold doing.actual q) (sym (untold_closed_others p doing.actual q ne) ∙ fine) untold) ] in
-              absurd (both_ways (connected (trail (Closed p ∷ doing.actual) q)) (ap (λ (x : Part). connected x.trail) (closed_here p q (part_of doing.actual q) e)) on)
+              absurd (both_ways (is_connected (trail (Closed p ∷ doing.actual) q)) (ap (λ (x : Part). is_connected x.trail) (closed_here p q (part_of doing.actual q) e)) on)
           | inr told ↦ doing.plan.aims q told (on_closed p doing.actual q on) block
         ];
       };
@@ -489,7 +489,7 @@ closed_on acts progress trace called planned t p cause free line may doing =
             let k = doing.known q untold (ap (λ (n : ℕ). is_pending (state_at progress.sends n)) e ∙ free) in
             absurd (elim omitted [
               | inl now ↦ off_omits_nothing planned q k.0 now.1
-              | inr before ↦ both_ways (failed (trail planned q)) (omitted_unfailed planned q before) k.1
+              | inr before ↦ both_ways (has_failed (trail planned q)) (omitted_unfailed planned q before) k.1
             ])
         | inr fine ↦ elim omitted [
           | inl now ↦ inl (now.0, omits_alike planned doing.actual q (doing.plan.told q fine) doing.brought doing.plan.tested now.1)
@@ -498,8 +498,8 @@ closed_on acts progress trace called planned t p cause free line may doing =
       ];
       unomitted = λ q told omitted. elim (cases_Bool (is_untold doing.actual q)) [
         | inl untold ↦ absurd (elim omitted [
-          | inl now ↦ both_ways (connected (trail doing.actual q)) (doing.broken q untold).0 now.1.there
-          | inr before ↦ both_ways (failed (trail doing.actual q)) (omitted_unfailed doing.actual q before) (doing.broken q untold).1
+          | inl now ↦ both_ways (is_connected (trail doing.actual q)) (doing.broken q untold).0 now.1.there
+          | inr before ↦ both_ways (has_failed (trail doing.actual q)) (omitted_unfailed doing.actual q before) (doing.broken q untold).1
         ])
         | inr fine ↦ elim omitted [
           | inl now ↦ inl (now.0, omits_planned planned doing.actual q (doing.plan.told q fine) doing.brought doing.plan.tests now.1)
@@ -523,7 +523,7 @@ pub closed_again : {rule : Rule} (acts : List Act) (progress : Progress) (called
     → Doing rule (Close p cause ∷ acts) progress called planned t → Doing rule acts progress called (Closed p ∷ planned) t
 closed_again acts progress called planned t p cause free shut may doing =
     let s = doing.notes.shut p.0 shut in
-    let both : (connected (trail planned p.0) ≡ false) × (failed (trail planned p.0) ≡ true) × (failed (trail doing.actual p.0) ≡ true) =
+    let both : (is_connected (trail planned p.0) ≡ false) × (has_failed (trail planned p.0) ≡ true) × (has_failed (trail doing.actual p.0) ≡ true) =
     twice (part_of planned p.0) (part_of doing.actual p.0) (doing.plan.told p.0 s.1) s.0 (failed_in_off planned p.0 cause may.1) in
     record {
       actual = doing.actual;
@@ -531,10 +531,10 @@ closed_again acts progress called planned t p cause free shut may doing =
       plan = record {
         told = λ q told. elim (cases_eq q p.0) [
           | inl e ↦ inr (
-            lost_off (p.0 == q) mark.Closed (part_of planned q) (ap (λ (k : ℕ). connected (trail planned k)) e ∙ both.0),
-            ap (λ (k : ℕ). connected (trail doing.actual k)) e ∙ s.0,
-            failed_still (p.0 == q) mark.Closed (part_of planned q) (ap (λ (k : ℕ). failed (trail planned k)) e ∙ both.1),
-            ap (λ (k : ℕ). failed (trail doing.actual k)) e ∙ both.2,
+            lost_off (p.0 == q) mark.Closed (part_of planned q) (ap (λ (k : ℕ). is_connected (trail planned k)) e ∙ both.0),
+            ap (λ (k : ℕ). is_connected (trail doing.actual k)) e ∙ s.0,
+            failed_still (p.0 == q) mark.Closed (part_of planned q) (ap (λ (k : ℕ). has_failed (trail planned k)) e ∙ both.1),
+            ap (λ (k : ℕ). has_failed (trail doing.actual k)) e ∙ both.2,
             closed_brought p planned q ∙ doing.brought q,
             closed_came p planned q ∙ doing.came q,
           )
@@ -551,7 +551,7 @@ closed_again acts progress called planned t p cause free shut may doing =
       brought = λ q. closed_brought p planned q ∙ doing.brought q;
       came = λ q. closed_came p planned q ∙ doing.came q;
       omitted = λ q told omitted. elim omitted [
-        | inl now ↦ absurd (off_omits_nothing planned q (ap (λ (k : ℕ). connected (trail planned k)) (sym now.0) ∙ both.0) now.1)
+        | inl now ↦ absurd (off_omits_nothing planned q (ap (λ (k : ℕ). is_connected (trail planned k)) (sym now.0) ∙ both.0) now.1)
         | inr before ↦ doing.omitted q told before
       ];
       unomitted = λ q told omitted. inr (doing.unomitted q told omitted);
@@ -565,11 +565,11 @@ closed_again acts progress called planned t p cause free shut may doing =
       other : (q : ℕ) → is_untold doing.actual q ≡ true → q ≢ p.0
       other q untold e = both_ways (is_untold doing.actual q) (ap (is_untold doing.actual) e ∙ (doing.notes.shut p.0 shut).1) untold
 
-      twice : (t u : Part) → Alike t u → connected u.trail ≡ false → (connected t.trail ≡ false → failed t.trail ≡ true) → (connected t.trail ≡ false) × (failed t.trail ≡ true) × (failed u.trail ≡ true)
+      twice : (t u : Part) → Alike t u → is_connected u.trail ≡ false → (is_connected t.trail ≡ false → has_failed t.trail ≡ true) → (is_connected t.trail ≡ false) × (has_failed t.trail ≡ true) × (has_failed u.trail ≡ true)
       twice t u (inl same) off h =
-          let gone : connected t.trail ≡ false = ap (λ (x : Part). connected x.trail) same ∙ off in
-          let broken : failed t.trail ≡ true = h gone in
-          (gone, broken, sym (ap (λ (x : Part). failed x.trail) same) ∙ broken)
+          let gone : is_connected t.trail ≡ false = ap (λ (x : Part). is_connected x.trail) same ∙ off in
+          let broken : has_failed t.trail ≡ true = h gone in
+          (gone, broken, sym (ap (λ (x : Part). has_failed x.trail) same) ∙ broken)
       twice t u (inr o) off h = (o.0, o.2, o.3)
 
 -- a send fails
@@ -584,10 +584,10 @@ failed_on {rule = rule} acts progress called planned t p m lt free may doing =
     let there : (q : ℕ) → q ≢ p.0 → state_at (set progress.sends p.0 Pending) q ≡ state_at progress.sends q = λ q ne. get_or-set_other progress.sends p.0 q Pending Fine ne in
     let bytes = bytes_of m in
     let spells : spelled bytes ≡ Some m = spelled_bytes m may.1 in
-    let on : connected (trail planned p.0) ≡ true = asked_on rule.mode (trail planned p.0) m may.2.of_its_part in
+    let on : is_connected (trail planned p.0) ≡ true = asked_on rule.mode (trail planned p.0) m may.2.of_its_part in
     let told : is_untold doing.actual p.0 ≡ false = known_told (Send p m ∷ acts) progress called planned t p.0 free on doing in
     let same : part_of planned p.0 ≡ part_of doing.actual p.0 = planned_part planned doing.actual p.0 doing.plan told on in
-    let on_too : connected (trail doing.actual p.0) ≡ true = sym (ap (λ (x : Part). connected x.trail) same) ∙ on in
+    let on_too : is_connected (trail doing.actual p.0) ≡ true = sym (ap (λ (x : Part). is_connected x.trail) same) ∙ on in
     let before : (q : ℕ) → q ≢ p.0 → is_untold (SendFailed p ∷ doing.actual) q ≡ true → is_untold doing.actual q ≡ true = λ q ne untold. sym (untold_failing_others p doing.actual q ne) ∙ untold in
     record {
       actual = SendFailed p ∷ doing.actual;
@@ -604,11 +604,11 @@ failed_on {rule = rule} acts progress called planned t p m lt free may doing =
         traced = doing.notes.traced;
         named = doing.notes.named;
         off = λ q not_it. elim (cases_eq q p.0) [
-          | inl e ↦ ap (λ (x : Part). connected x.trail) (failing_here p q (part_of doing.actual q) e)
+          | inl e ↦ ap (λ (x : Part). is_connected x.trail) (failing_here p q (part_of doing.actual q) e)
           | inr ne ↦ lost_off (p.0 == q) mark.SendFailed (part_of doing.actual q) (doing.notes.off q (sym (ap is_fine (there q ne)) ∙ not_it))
         ];
         shut = λ q it. let s = doing.notes.shut q it in
-            let ne : q ≢ p.0 = λ e. both_ways (connected (trail doing.actual q)) s.0 (ap (λ (k : ℕ). connected (trail doing.actual k)) e ∙ on_too) in
+            let ne : q ≢ p.0 = λ e. both_ways (is_connected (trail doing.actual q)) s.0 (ap (λ (k : ℕ). is_connected (trail doing.actual k)) e ∙ on_too) in
             (lost_off (p.0 == q) mark.SendFailed (part_of doing.actual q) s.0, untold_failing_others p doing.actual q ne ∙ s.1);
         new = λ q le. let ne : q ≢ p.0 = λ e. absurd (omega (arith, doing.plan.dials, may.0)) in
             let n = doing.notes.new q le in (ap is_fine (there q ne) ∙ n.0, n.1);
@@ -670,8 +670,8 @@ failed_on {rule = rule} acts progress called planned t p m lt free may doing =
       ];
       broken = λ q untold. elim (cases_eq q p.0) [
         | inl e ↦ (
-          ap (λ (x : Part). connected x.trail) (failing_here p q (part_of doing.actual q) e),
-          ap (λ (x : Part). failed x.trail) (failing_here p q (part_of doing.actual q) e),
+          ap (λ (x : Part). is_connected x.trail) (failing_here p q (part_of doing.actual q) e),
+          ap (λ (x : Part). has_failed x.trail) (failing_here p q (part_of doing.actual q) e),
         )
         | inr ne ↦ let b = doing.broken q (before q ne untold) in
             (lost_off (p.0 == q) mark.SendFailed (part_of doing.actual q) b.0, failed_still (p.0 == q) mark.SendFailed (part_of doing.actual q) b.1)
@@ -691,8 +691,8 @@ may_send {rule = rule} acts progress called planned t p m free may doing = elim 
   | inr not_it ↦
       let on = asked_on rule.mode (trail planned p.0) m may.2.of_its_part in
       let told = known_told acts progress called planned t p.0 free on doing in
-      absurd (both_ways (connected (trail doing.actual p.0)) (doing.notes.off p.0 not_it)
-      (ap (λ (x : Part). connected x.trail) (sym (planned_part planned doing.actual p.0 doing.plan told on)) ∙ on))
+      absurd (both_ways (is_connected (trail doing.actual p.0)) (doing.notes.off p.0 not_it)
+      (ap (λ (x : Part). is_connected x.trail) (sym (planned_part planned doing.actual p.0 doing.plan told on)) ∙ on))
 ]
 
 -- one more act is done
@@ -721,8 +721,8 @@ acts_done {rule = rule} acts i end progress called t le left =
 pub cut_for : (p : PeerNo) (log : Log) → CutFor p log (SendFailed p ∷ log)
 cut_for p log = record {
   others = λ q ne. failing_others p q (part_of log q) ne;
-  off = ap (λ (x : Part). connected x.trail) (failing_here p p.0 (part_of log p.0) refl);
-  broken = ap (λ (x : Part). failed x.trail) (failing_here p p.0 (part_of log p.0) refl);
+  off = ap (λ (x : Part). is_connected x.trail) (failing_here p p.0 (part_of log p.0) refl);
+  broken = ap (λ (x : Part). has_failed x.trail) (failing_here p p.0 (part_of log p.0) refl);
   brought = failing_brought p log p.0;
   came = failing_came p log p.0;
   gave = λ job. (λ h. h, λ h. h);
@@ -799,8 +799,8 @@ told_one rest progress called planned t p cause lt is doing =
       broken = doing.broken;
       known = λ q untold clear. elim (cases_eq q p.0) [
         | inl e ↦ (
-          ap (λ (x : Part). connected x.trail) (failing_here p q (part_of planned q) e),
-          ap (λ (x : Part). failed x.trail) (failing_here p q (part_of planned q) e),
+          ap (λ (x : Part). is_connected x.trail) (failing_here p q (part_of planned q) e),
+          ap (λ (x : Part). has_failed x.trail) (failing_here p q (part_of planned q) e),
         )
         | inr ne ↦ absurd (both_ways (is_pending (state_at progress.sends q)) (sym (ap is_pending (there q ne)) ∙ clear) (only (is_pending (state_at progress.sends q)) (doing.due q untold)))
       ];

@@ -11,7 +11,7 @@ use Rattle.cf_headers.specs.declared.store.HeaderStore.{Ghosts}
 use Rattle.cf_match.specs.declared.matcher.Matcher.{Ghosts as Judges}
 use Rattle.cf_peer.specs.declared.mode.Mode.{Mode}
 use Rattle.cf_peer.specs.declared.mode.Mode.TheVariants.{Following}
-use Rattle.cf_peer.specs.Trail.{trail, connected}
+use Rattle.cf_peer.specs.Trail.{trail, is_connected}
 use Rattle.cf_peer.specs.Asking.{is_open}
 use Rattle.cf_place.specs.declared.state.State.TheVariants.{Working, Synced, NoPeers}
 use Rattle.cf_place.specs.Standing.{IsState}
@@ -96,7 +96,7 @@ pub busy_unrested : (log : Log) → IsState Working log → IsAtRest log → ⊥
 busy_unrested log busy rest = both_ways (is_open (trail log busy.0)) (rest.quiet busy.0) busy.1
 
 pub alone_unrested : (log : Log) → IsState NoPeers log → IsAtRest log → ⊥
-alone_unrested log none rest = both_ways (connected (trail log rest.who)) (none rest.who) rest.there
+alone_unrested log none rest = both_ways (is_connected (trail log rest.who)) (none rest.who) rest.there
 
 -- nothing, where it isn't one of rest
 pub none_next : {H M : Type 0} {g : Ghosts H} {j : Judges M} (c : Client H M g j) (before : List (List ℕ)) (last : Option (String Global)) (now : Option (List ℕ)) → IsLast last before

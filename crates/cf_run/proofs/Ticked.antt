@@ -19,7 +19,7 @@ use Rattle.cf_peer.specs.declared.mode.Mode.{Mode}
 use Rattle.cf_peer.specs.declared.mode.Mode.TheVariants.{Once, Following}
 use Rattle.cf_peer.specs.Acts.{bytes_of}
 use Rattle.cf_peer.specs.Asking.{MayAskIn, block_asked, claims_asked, filters_asked, is_idle, is_open, pings, request}
-use Rattle.cf_peer.specs.Trail.{Trail, Part, Asked, Lost, called_part, connected, part_of, ready, spelled, trail, with_item}
+use Rattle.cf_peer.specs.Trail.{Trail, Part, Asked, Lost, called_part, is_connected, part_of, ready, spelled, trail, with_item}
 use Rattle.cf_sync.specs.Fetching.{Rule, is_after_tick}
 use Rattle.cf_place.specs.Places.{Allowed, MayAct, after, entry_of}
 use Rattle.cf_client.specs.Stands.{ArePinged}
@@ -53,16 +53,16 @@ asked_open t (Version version services time to from nonce agent height relay) ma
     open_still t (Asked (Version version services time to from nonce agent height relay) ∷ t) refl (none_more (pings t)) h
 asked_open t Verack may h = open_still t (Asked Verack ∷ t) refl (none_more (pings t)) h
 asked_open t (Pong n) may h = open_still t (Asked (Pong n) ∷ t) refl (none_more (pings t)) h
-asked_open t (Ping n) may h = inl (open_so (connected t) (ready t) true may.0.on refl)
-asked_open t (GetHeaders version locator stop) may h = inl (open_so (connected t) (ready t) true may.0.on refl)
+asked_open t (Ping n) may h = inl (open_so (is_connected t) (ready t) true may.0.on refl)
+asked_open t (GetHeaders version locator stop) may h = inl (open_so (is_connected t) (ready t) true may.0.on refl)
 asked_open t (GetCfheaders filter start stop) may h =
-    inl (open_so (connected t) (ready t) (not (is_idle (request (Asked (GetCfheaders filter start stop) ∷ t)))) may.0.on
+    inl (open_so (is_connected t) (ready t) (not (is_idle (request (Asked (GetCfheaders filter start stop) ∷ t)))) may.0.on
     (ap (λ (part : Option Chain). not (is_idle (claims_asked start stop.0 part))) may.1.0.tip))
 asked_open t (GetCfilters filter start stop) may h =
-    inl (open_so (connected t) (ready t) (not (is_idle (request (Asked (GetCfilters filter start stop) ∷ t)))) may.0.on
+    inl (open_so (is_connected t) (ready t) (not (is_idle (request (Asked (GetCfilters filter start stop) ∷ t)))) may.0.on
     (ap (λ (part : Option Chain). not (is_idle (filters_asked start part))) may.1.0.tip))
 asked_open t (GetData entries) may h =
-    inl (open_so (connected t) (ready t) (not (is_idle (request (Asked (GetData entries) ∷ t)))) may.0.on
+    inl (open_so (is_connected t) (ready t) (not (is_idle (request (Asked (GetData entries) ∷ t)))) may.0.on
     (ap (λ (es : List Inventory). not (is_idle (block_asked es (request t)))) may.1.1))
 asked_open t (Headers hs) may h = absurd may
 asked_open t (Inv entries) may h = absurd may
@@ -79,18 +79,18 @@ ticked_sent Once p m log spells may was = tt
 ticked_sent Following p m log spells may was = λ is q on. elim (cases_eq q p.0) [
   | inl e ↦
       let here = sent_here p (bytes_of m) m q (part_of log q) e spells in
-      let on_before : connected (trail log q) ≡ true = sym (ap (λ (x : Part). connected x.trail) here) ∙ on in
+      let on_before : is_connected (trail log q) ≡ true = sym (ap (λ (x : Part). is_connected x.trail) here) ∙ on in
       subst (λ (x : Part). StillOpen x.trail) (sym here)
       (asked_open (trail log q) m (subst (λ (k : ℕ). MayAskIn Following (trail log k) m) (sym e) may) (was is q on_before))
   | inr ne ↦
       let same = sent_others p (bytes_of m) q (part_of log q) ne in
-      subst (λ (x : Part). StillOpen x.trail) (sym same) (was is q (sym (ap (λ (x : Part). connected x.trail) same) ∙ on))
+      subst (λ (x : Part). StillOpen x.trail) (sym same) (was is q (sym (ap (λ (x : Part). is_connected x.trail) same) ∙ on))
 ]
 
 -- ---- a peer is lost, or dialled
 
-lost_open : (b : Bool) (m : Mark) (part : Part) → (connected part.trail ≡ true → StillOpen part.trail)
-    → connected (if b then with_item (Lost m) part else part).trail ≡ true → StillOpen (if b then with_item (Lost m) part else part).trail
+lost_open : (b : Bool) (m : Mark) (part : Part) → (is_connected part.trail ≡ true → StillOpen part.trail)
+    → is_connected (if b then with_item (Lost m) part else part).trail ≡ true → StillOpen (if b then with_item (Lost m) part else part).trail
 lost_open true m part was on = absurd (false≢true on)
 lost_open false m part was on = was on
 
@@ -106,8 +106,8 @@ missed : (mode : Mode) (p : PeerNo) (name : List ℕ) (log : Log) → IsTicked m
 missed Once p name log was = tt
 missed Following p name log was = λ is q on. lost_open (p.0 == q) mark.NotDialled (part_of log q) (was is q) on
 
-called_open : (b : Bool) (part : Part) → (connected part.trail ≡ true → StillOpen part.trail)
-    → connected (if b then called_part part else part).trail ≡ true → StillOpen (if b then called_part part else part).trail
+called_open : (b : Bool) (part : Part) → (is_connected part.trail ≡ true → StillOpen part.trail)
+    → is_connected (if b then called_part part else part).trail ≡ true → StillOpen (if b then called_part part else part).trail
 called_open true part was on = inl refl
 called_open false part was on = was on
 
@@ -177,11 +177,11 @@ ticked_first Following = λ is. absurd (false≢true is)
 -- ---- from the plan to what was done
 
 same_ticked : (mode : Mode) (planned actual : Log) → is_after_tick planned ≡ is_after_tick actual
-    → ((q : ℕ) → connected (trail actual q) ≡ true → part_of planned q ≡ part_of actual q) → IsTicked mode planned → IsTicked mode actual
+    → ((q : ℕ) → is_connected (trail actual q) ≡ true → part_of planned q ≡ part_of actual q) → IsTicked mode planned → IsTicked mode actual
 same_ticked Once planned actual last parts was = tt
 same_ticked Following planned actual last parts was = λ is q on.
     let same = parts q on in
-    subst (λ (x : Part). StillOpen x.trail) same (was (last ∙ is) q (ap (λ (x : Part). connected x.trail) same ∙ on))
+    subst (λ (x : Part). StillOpen x.trail) same (was (last ∙ is) q (ap (λ (x : Part). is_connected x.trail) same ∙ on))
 
 pub ticked_told : {rule : Rule} (progress : Progress) (called : List (List ℕ)) (planned : Log) (t : Told) (doing : Doing rule [] progress called planned t)
     → IsTicked rule.mode planned → IsTicked rule.mode doing.actual

@@ -17,7 +17,7 @@ use Rattle.cf_wires.specs.declared.event.Event.TheVariants.{Dialled, NotDialled,
 use Rattle.cf_wires.specs.declared.event.Mark.{Mark}
 use Rattle.cf_wires.specs.declared.event.Mark.TheVariants as mark
 use Rattle.cf_wires.specs.Log.{Log, Told, Tally, Tells, tally_of, tell, dials}
-use Rattle.cf_peer.specs.Trail.{Trail, Part, Lost, heard_part, called_part, with_item, part_of, trail, went_on, connected, ready}
+use Rattle.cf_peer.specs.Trail.{Trail, Part, Lost, heard_part, called_part, with_item, part_of, trail, went_on, is_connected, ready}
 use Rattle.cf_peer.specs.Asking.{is_open, is_idle, request}
 use Rattle.cf_scan.specs.declared.history.Entry.{Entry}
 use Rattle.cf_peer.specs.declared.mode.Mode.{Mode}
@@ -53,7 +53,7 @@ use Rattle.cf_run.proofs.Ticked.{ticked_ended, ticked_first, ticked_missed}
 use Rattle.cf_run.proofs.Performs.{tells_more, lost_off, sent_connected, untold_failing_here, untold_failing_others, untold_closed_others}
 
 -- what a piece says connects nobody, and cuts nobody off
-got_connected : (b : Bool) (piece : List ℕ) (part : Part) → connected (if b then heard_part piece part else part).trail ≡ connected part.trail
+got_connected : (b : Bool) (piece : List ℕ) (part : Part) → is_connected (if b then heard_part piece part else part).trail ≡ is_connected part.trail
 got_connected true piece part = heard_on piece part
 got_connected false piece part = refl
 
@@ -119,9 +119,9 @@ dial_doing c acts progress called t p name holds is room untaken unended =
       traced = holds.notes.traced;
       named = more_names holds.actual (record { name = name; answered = true }) called holds.notes.named;
       off = λ q not_it. let ne : q ≢ p.0 = λ e. both_ways (is_fine (state_at progress.sends q)) not_it (holds.notes.new q (omega (arith, past, e))).0 in
-          ap (λ (x : Part). connected x.trail) (dialled_others p name q (part_of holds.actual q) ne) ∙ holds.notes.off q not_it;
+          ap (λ (x : Part). is_connected x.trail) (dialled_others p name q (part_of holds.actual q) ne) ∙ holds.notes.off q not_it;
       shut = λ q it. let ne : q ≢ p.0 = λ e. both_ways (get_or progress.closed q false) (holds.notes.new q (omega (arith, past, e))).1 it in
-          (ap (λ (x : Part). connected x.trail) (dialled_others p name q (part_of holds.actual q) ne) ∙ (holds.notes.shut q it).0, holds.told_all q);
+          (ap (λ (x : Part). is_connected x.trail) (dialled_others p name q (part_of holds.actual q) ne) ∙ (holds.notes.shut q it).0, holds.told_all q);
       new = λ q le. holds.notes.new q (omega (arith, le));
       few = omega (arith, count, room);
     })
@@ -159,7 +159,7 @@ not_dialled_holds c d progress called t p name holds is room untaken unended sam
       none = holds.none;
     }
 
-off_took : (d : Delivery) (q : ℕ) (part : Part) → connected part.trail ≡ false → connected (went_on (Took d) q part).trail ≡ false
+off_took : (d : Delivery) (q : ℕ) (part : Part) → is_connected part.trail ≡ false → is_connected (went_on (Took d) q part).trail ≡ false
 off_took (Got p piece) q part off = got_connected (p.0 == q) piece part ∙ off
 off_took (Gone p) q part off = lost_off (p.0 == q) mark.Gone part off
 off_took (Tick s) q part off = off
@@ -202,8 +202,8 @@ and_left : (a b : Bool) → (a && b) ≡ true → a ≡ true
 and_left true b h = refl
 and_left false b h = absurd (false≢true h)
 
-open_on : (t : Trail) → is_open t ≡ true → connected t ≡ true
-open_on t h = and_left (connected t) (not (ready t) || not (is_idle (request t))) h
+open_on : (t : Trail) → is_open t ≡ true → is_connected t ≡ true
+open_on t h = and_left (is_connected t) (not (ready t) || not (is_idle (request t))) h
 
 -- while something is open a delivery may be taken by a client of either mode
 pub may_take : (mode : Mode) (log : Log) → IsBusy log → MayTake mode log
@@ -346,7 +346,7 @@ mark_set marks i p m y lt size is = elim (cases_eq p i) [
   | inr ne ↦ grind (arith, common_steps)
 ]
 
-push_if : (b : Bool) (a part : Part) → (if b then connected a.trail else connected part.trail) ≡ connected (if b then a else part).trail
+push_if : (b : Bool) (a part : Part) → (if b then is_connected a.trail else is_connected part.trail) ≡ is_connected (if b then a else part).trail
 push_if true a part = refl
 push_if false a part = refl
 
@@ -356,30 +356,30 @@ kept_size marks i m size = grind (arith, common_steps)
 -- the tally has as many marks, and this peer's says whether it is connected
 record Marks (log : Log) (p : ℕ) : Type 0 where
   pub size : length (tally_of log).marks ≡ 9
-  pub says : is_called (get_or (tally_of log).marks p mark.NotYet) ≡ connected (trail log p)
+  pub says : is_called (get_or (tally_of log).marks p mark.NotYet) ≡ is_connected (trail log p)
 
 mark_step : (e : Event) (log : Log) (p : ℕ) → p < 9 → Marks log p → Marks (e ∷ log) p
 mark_step (Dialled q name) log p lt before = record {
   size = kept_size (tally_of log).marks q.0 mark.Dialled before.size;
-  says = mark_set (tally_of log).marks q.0 p mark.Dialled (connected (trail log p)) lt before.size before.says ∙ push_if (q.0 == p) (called_part (part_of log p)) (part_of log p);
+  says = mark_set (tally_of log).marks q.0 p mark.Dialled (is_connected (trail log p)) lt before.size before.says ∙ push_if (q.0 == p) (called_part (part_of log p)) (part_of log p);
 }
 mark_step (NotDialled q name) log p lt before = record {
   size = kept_size (tally_of log).marks q.0 mark.NotDialled before.size;
-  says = mark_set (tally_of log).marks q.0 p mark.NotDialled (connected (trail log p)) lt before.size before.says ∙ push_if (q.0 == p) (with_item (Lost mark.NotDialled) (part_of log p)) (part_of log p);
+  says = mark_set (tally_of log).marks q.0 p mark.NotDialled (is_connected (trail log p)) lt before.size before.says ∙ push_if (q.0 == p) (with_item (Lost mark.NotDialled) (part_of log p)) (part_of log p);
 }
 mark_step (Sent q bytes) log p lt before = record { size = before.size; says = before.says ∙ sym (sent_connected q bytes p (part_of log p)) }
 mark_step (SendFailed q) log p lt before = record {
   size = kept_size (tally_of log).marks q.0 mark.SendFailed before.size;
-  says = mark_set (tally_of log).marks q.0 p mark.SendFailed (connected (trail log p)) lt before.size before.says ∙ push_if (q.0 == p) (with_item (Lost mark.SendFailed) (part_of log p)) (part_of log p);
+  says = mark_set (tally_of log).marks q.0 p mark.SendFailed (is_connected (trail log p)) lt before.size before.says ∙ push_if (q.0 == p) (with_item (Lost mark.SendFailed) (part_of log p)) (part_of log p);
 }
 mark_step (Closed q) log p lt before = record {
   size = kept_size (tally_of log).marks q.0 mark.Closed before.size;
-  says = mark_set (tally_of log).marks q.0 p mark.Closed (connected (trail log p)) lt before.size before.says ∙ push_if (q.0 == p) (with_item (Lost mark.Closed) (part_of log p)) (part_of log p);
+  says = mark_set (tally_of log).marks q.0 p mark.Closed (is_connected (trail log p)) lt before.size before.says ∙ push_if (q.0 == p) (with_item (Lost mark.Closed) (part_of log p)) (part_of log p);
 }
 mark_step (Took (Got q piece)) log p lt before = record { size = before.size; says = before.says ∙ sym (got_connected (q.0 == p) piece (part_of log p)) }
 mark_step (Took (Gone q)) log p lt before = record {
   size = kept_size (tally_of log).marks q.0 mark.Gone before.size;
-  says = mark_set (tally_of log).marks q.0 p mark.Gone (connected (trail log p)) lt before.size before.says ∙ push_if (q.0 == p) (with_item (Lost mark.Gone) (part_of log p)) (part_of log p);
+  says = mark_set (tally_of log).marks q.0 p mark.Gone (is_connected (trail log p)) lt before.size before.says ∙ push_if (q.0 == p) (with_item (Lost mark.Gone) (part_of log p)) (part_of log p);
 }
 mark_step (Took (Tick s)) log p lt before = record { size = before.size; says = before.says }
 mark_step (Took Ended) log p lt before = record { size = before.size; says = before.says }
@@ -441,16 +441,16 @@ pub stops : {H M : Type 0} {g : Ghosts H} {j : Judges M} (end : End) (c : Client
 stops end c progress called t holds why = record { holds = holds; why = why holds.actual holds.reflects }
 
 -- whoever is connected was dialled, and so has a number
-lost_on : (b : Bool) (m : Mark) (part : Part) → connected (if b then with_item (Lost m) part else part).trail ≡ true → connected part.trail ≡ true
+lost_on : (b : Bool) (m : Mark) (part : Part) → is_connected (if b then with_item (Lost m) part else part).trail ≡ true → is_connected part.trail ≡ true
 lost_on true m part on = absurd (false≢true on)
 lost_on false m part on = on
 
-numbered_on : (log : Log) (p : ℕ) → AreNumbered log → connected (trail log p) ≡ true → (1 ≤ p) × (p ≤ (tally_of log).dials)
+numbered_on : (log : Log) (p : ℕ) → AreNumbered log → is_connected (trail log p) ≡ true → (1 ≤ p) × (p ≤ (tally_of log).dials)
 numbered_on [] p n on = absurd (false≢true on)
 numbered_on (Dialled q name ∷ log) p n on = elim (cases_eq p q.0) [
   | inl e ↦ (omega (arith, e, n.0), omega (arith, e, n.0))
   | inr ne ↦
-      let old = numbered_on log p n.1 (sym (ap (λ (x : Part). connected x.trail) (dialled_others q name p (part_of log p) ne)) ∙ on) in
+      let old = numbered_on log p n.1 (sym (ap (λ (x : Part). is_connected x.trail) (dialled_others q name p (part_of log p) ne)) ∙ on) in
       (old.0, omega (arith, old.1))
 ]
 numbered_on (NotDialled q name ∷ log) p n on = let old = numbered_on log p n.1 (lost_on (q.0 == p) mark.NotDialled (part_of log p) on) in (old.0, omega (arith, old.1))
@@ -527,30 +527,30 @@ broken_mark (Took (Gone q) ∷ log) p lt w is = elim (broken_set (tally_of log).
 broken_mark (Took (Tick s) ∷ log) p lt w is = absurd (both_ways (is_untold log p) (w.0.told p) (broken_mark log p lt w.1 is))
 broken_mark (Took Ended ∷ log) p lt w is = absurd (both_ways (is_untold log p) (w.0.told p) (broken_mark log p lt w.1 is))
 
-lost_mark : (log : Log) (p : ℕ) → AreNumbered log → WasOrderly log → IsOrderly log → connected (trail log p) ≡ false → 1 ≤ p → p ≤ (tally_of log).dials → p < 9
+lost_mark : (log : Log) (p : ℕ) → AreNumbered log → WasOrderly log → IsOrderly log → is_connected (trail log p) ≡ false → 1 ≤ p → p ≤ (tally_of log).dials → p < 9
     → is_lost (get_or (tally_of log).marks p mark.NotYet) ≡ true
 lost_mark log p n was now off one le lt = lost_by (get_or (tally_of log).marks p mark.NotYet) (dialled_mark log p n one le lt) ((marks_of log p lt).says ∙ off)
     (λ broken. both_ways (is_untold log p) (now.told p) (broken_mark log p lt was broken))
 
-nobody_left : (log : Log) → NobodyLeft (tally_of log) → AreNumbered log → (tally_of log).dials ≤ 8 → (p : ℕ) → connected (trail log p) ≡ false
-nobody_left log none numbered few p = elim (cases_Bool (connected (trail log p))) [
+nobody_left : (log : Log) → NobodyLeft (tally_of log) → AreNumbered log → (tally_of log).dials ≤ 8 → (p : ℕ) → is_connected (trail log p) ≡ false
+nobody_left log none numbered few p = elim (cases_Bool (is_connected (trail log p))) [
   | inl on ↦
       let r = numbered_on log p numbered on in
       let lt : p < 9 = omega (arith, r.1, few) in
-      absurd (both_ways (connected (trail log p)) (sym (marks_of log p lt).says ∙ called_not (get_or (tally_of log).marks p mark.NotYet) (none p r.0 r.1)) on)
+      absurd (both_ways (is_connected (trail log p)) (sym (marks_of log p lt).says ∙ called_not (get_or (tally_of log).marks p mark.NotYet) (none p r.0 r.1)) on)
   | inr off ↦ off
 ]
 
-not_open : (t : Trail) → connected t ≡ false → is_open t ≡ true → ⊥
-not_open t off is = both_ways (connected t) off (open_on t is)
+not_open : (t : Trail) → is_connected t ≡ false → is_open t ≡ true → ⊥
+not_open t off is = both_ways (is_connected t) off (open_on t is)
 
-ends_so : (end : End) (log : Log) → IsEnd end log → ((p : ℕ) → connected (trail log p) ≡ false) → end ≡ NoPeers
-ends_so Synced log why off = absurd (both_ways (connected (trail log why.1.0)) (off why.1.0) why.1.1)
+ends_so : (end : End) (log : Log) → IsEnd end log → ((p : ℕ) → is_connected (trail log p) ≡ false) → end ≡ NoPeers
+ends_so Synced log why off = absurd (both_ways (is_connected (trail log why.1.0)) (off why.1.0) why.1.1)
 ends_so NoPeers log why off = refl
 ends_so Tired log why off = absurd (not_open (trail log why.0) (off why.0) why.1)
 ends_so EndedFirst log why off =
     let busy = why.1.1 in
-    absurd (not_open (trail why.0 busy.0) (subst (λ (l : Log). connected (trail l busy.0) ≡ false) why.1.0 (off busy.0)) busy.1)
+    absurd (not_open (trail why.0 busy.0) (subst (λ (l : Log). is_connected (trail l busy.0) ≡ false) why.1.0 (off busy.0)) busy.1)
 
 -- a run ends for want of peers exactly where the tally has nobody left
 pub no_peers : {H M : Type 0} {g : Ghosts H} {j : Judges M} (end : End) (c : Client H M g j) (progress : Progress)

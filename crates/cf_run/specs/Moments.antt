@@ -8,8 +8,8 @@ use Rattle.cf_peer.specs.declared.act.Act.TheVariants.{Send, Close}
 use Rattle.cf_peer.specs.declared.mode.Mode.TheVariants.{Following}
 use Rattle.cf_wires.specs.Log.{Log, Told, Tally, Tells, tally_of}
 use Rattle.cf_wires.specs.Wires.{Made}
-use Rattle.cf_peer.specs.Trail.{trail, connected, failed}
-use Rattle.cf_peer.specs.Asking.{given}
+use Rattle.cf_peer.specs.Trail.{trail, is_connected, has_failed}
+use Rattle.cf_peer.specs.Asking.{given_filters}
 use Rattle.cf_sync.specs.Blame.{HasOmitted}
 use Rattle.cf_sync.specs.Fetching.{IsSameFetched, Rule, RightlyIn, AreBytes, counted_part}
 use Rattle.cf_holds.specs.Due.{ArePlanned}
@@ -70,8 +70,8 @@ pub record Notes (rule : Rule) (progress : Progress) (called : List (List ℕ)) 
   pub first : AreDialledFirst actual
   pub traced : IsTraceOf actual (reverse progress.trace.items)
   pub named : names_of actual ≡ called
-  pub off : (q : ℕ) → is_fine (state_at progress.sends q) ≡ false → connected (trail actual q) ≡ false
-  pub shut : (q : ℕ) → slice_index_or progress.closed q false ≡ true → (connected (trail actual q) ≡ false) × (is_untold actual q ≡ false)
+  pub off : (q : ℕ) → is_fine (state_at progress.sends q) ≡ false → is_connected (trail actual q) ≡ false
+  pub shut : (q : ℕ) → slice_index_or progress.closed q false ≡ true → (is_connected (trail actual q) ≡ false) × (is_untold actual q ≡ false)
   pub new : (q : ℕ) → (tally_of actual).dials < q → (is_fine (state_at progress.sends q) ≡ true) × (slice_index_or progress.closed q false ≡ false)
   pub few : (tally_of actual).dials ≤ 8
 
@@ -90,11 +90,11 @@ is_due progress acts q = is_pending (state_at progress.sends q) || list_any (clo
 
 -- of each peer the same filters came
 abbrev pub IsSameCome : Log → Log → Type 0
-IsSameCome a b = (p : ℕ) → given (counted_part a p) ≡ given (counted_part b p)
+IsSameCome a b = (p : ℕ) → given_filters (counted_part a p) ≡ given_filters (counted_part b p)
 
 -- cut off by a send that failed
 abbrev pub IsBroken : Log → ℕ → Type 0
-IsBroken log q = (connected (trail log q) ≡ false) × (failed (trail log q) ≡ true)
+IsBroken log q = (is_connected (trail log q) ≡ false) × (has_failed (trail log q) ≡ true)
 
 -- with these acts left to be done, some log that the wires tell is the planned one, but for the peers whose failed sends aren't told
 pub record Doing (rule : Rule) (acts : List Act) (progress : Progress) (called : List (List ℕ)) (planned : Log) (t : Told) : Type 0 where

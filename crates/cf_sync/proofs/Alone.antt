@@ -7,7 +7,7 @@ use Rattle.cf_msg.specs.declared.msg.Inventory.{Inventory}
 use Rattle.cf_msg.specs.declared.msg.Msg.{Msg}
 use Rattle.cf_msg.specs.declared.msg.Msg.TheVariants.{GetData, GetCfilters, Ping}
 use Rattle.cf_wires.specs.Log.{Log}
-use Rattle.cf_peer.specs.Trail.{Part, part_of, trail, connected, own}
+use Rattle.cf_peer.specs.Trail.{Part, part_of, trail, is_connected, own}
 use Rattle.cf_peer.specs.Asking.{OpenRequest, is_spare, NothingOpen, HeadersOpen, ClaimsOpen, FiltersOpen, BlockOpen, PingOpen, request}
 use Rattle.cf_sync.specs.Fetching.{IsConnected, IsSameFetched, filters_open, blocks_open, IsAlone, blocks_in, is_after_tick}
 use Rattle.cf_sync.proofs.SameFetched.{same_fetched_hash}
@@ -21,9 +21,9 @@ pub alone_less : (planned log : Log) (p : ℕ) (m : Msg) → IsSameFetched plann
     → part_of planned p ≡ part_of log p → IsAlone planned p m → IsAlone log p m
 alone_less planned log p (GetCfilters filter start stop) fetched ticked parts mine alone = λ b i none stands.
     alone b (subst (λ (x : Part). IsIn b (blocks_in start (back_to stop.0 (own x.trail)))) (sym mine) i) (λ got. none (same_fetched_hash planned log fetched b got))
-    (stands.0, subst (λ (x : Part). (connected x.trail ≡ true) × IsIn b (filters_open (request x.trail))) (sym (parts stands.0 stands.1.0)) stands.1)
+    (stands.0, subst (λ (x : Part). (is_connected x.trail ≡ true) × IsIn b (filters_open (request x.trail))) (sym (parts stands.0 stands.1.0)) stands.1)
 alone_less planned log p (GetData entries) fetched ticked parts mine alone = λ entry i stands.
-    alone entry i (stands.0, subst (λ (x : Part). (connected x.trail ≡ true) × IsIn entry.hash.0 (blocks_open (request x.trail))) (sym (parts stands.0 stands.1.0)) stands.1)
+    alone entry i (stands.0, subst (λ (x : Part). (is_connected x.trail ≡ true) × IsIn entry.hash.0 (blocks_open (request x.trail))) (sym (parts stands.0 stands.1.0)) stands.1)
 alone_less planned log p (Ping number) fetched ticked parts mine alone = sym ticked ∙ alone
 alone_less planned log p m fetched ticked parts mine alone = tt
 

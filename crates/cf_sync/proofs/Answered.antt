@@ -12,7 +12,7 @@ use Rattle.cf_wires.specs.declared.event.Event.{Event}
 use Rattle.cf_wires.specs.declared.event.Event.TheVariants.{Dialled, NotDialled, Sent, SendFailed, Closed, Took}
 use Rattle.cf_wires.specs.declared.event.Mark.TheVariants as mark
 use Rattle.cf_wires.specs.Log.{Log}
-use Rattle.cf_peer.specs.Asking.{counted, given}
+use Rattle.cf_peer.specs.Asking.{counted, given_filters}
 use Rattle.cf_peer.specs.Trail.{Trail, Part, Lost, called_part, with_item, spelled, asks, part_of, trail}
 use Rattle.cf_sync.specs.Fetching.{counted_part, IsAnswered, IsFetchedHash, IsGiven, IsNoPiece, IsNoTest, IsTest, test_after}
 use Rattle.cf_sync.specs.Planned.{IsSameGiven}
@@ -46,12 +46,12 @@ only_pieces_answer way e log job none a = a
 
 -- nor does an entry with which no peer gave a filter more
 pub none_came_answers : (way : Log → ℕ → Hash → Type 0) (e : Event) (log : Log)
-    → ((q : ℕ) → given (counted_part (e ∷ log) q) ≡ given (counted_part log q))
+    → ((q : ℕ) → given_filters (counted_part (e ∷ log) q) ≡ given_filters (counted_part log q))
     → (job : Job) → IsAnswered way (e ∷ log) job → IsAnswered way log job
 none_came_answers way (Took (Got q piece)) log same1 job (inr old) = old
 none_came_answers way (Took (Got q piece)) log same1 job (inl new) =
     let none : new.1.news ≡ [] =
-    append_cancel_right new.1.news [] (given (counted_part log q.0)) (sym new.1.joined ∙ same1 q.0) in
+    append_cancel_right new.1.news [] (given_filters (counted_part log q.0)) (sym new.1.joined ∙ same1 q.0) in
     absurd (subst (λ (js : List Job). IsIn job js) none new.1.among)
 none_came_answers way (Took (Gone q)) log same1 job a = a
 none_came_answers way (Took (Tick s)) log same1 job a = a
@@ -59,17 +59,17 @@ none_came_answers way e log same1 job a = a
 
 -- a filter came in a whole answer of some peer, before the first frame by which that peer deserved a cause
 abbrev pub HasCome : Log → Job → Type 0
-HasCome log job = (p : ℕ) × IsIn job (given (counted_part log p))
+HasCome log job = (p : ℕ) × IsIn job (given_filters (counted_part log p))
 
 come_stays : (e : Event) (log : Log) (job : Job) → HasCome log job → HasCome (e ∷ log) job
 come_stays e log job w =
     let more = gave_more e log w.0 in
-    (w.0, subst (λ (js : List Job). IsIn job js) (sym more.1) (in_right job more.0 (given (counted_part log w.0)) w.1))
+    (w.0, subst (λ (js : List Job). IsIn job js) (sym more.1) (in_right job more.0 (given_filters (counted_part log w.0)) w.1))
 
 pub answered_wide : (way : Log → ℕ → Hash → Type 0) (log : Log) (job : Job) → IsAnswered way log job → HasCome log job
 answered_wide way [] job a = absurd a
 answered_wide way (Took (Got q piece) ∷ log) job (inl new) =
-    let among = in_left job new.1.news (given (counted_part log q.0)) new.1.among in
+    let among = in_left job new.1.news (given_filters (counted_part log q.0)) new.1.among in
     (q.0, subst (λ (js : List Job). IsIn job js) (sym new.1.joined) among)
 answered_wide way (Took (Got q piece) ∷ log) job (inr old) =
     come_stays (Took (Got q piece)) log job (answered_wide way log job old)
@@ -92,7 +92,7 @@ given_wide = answered_wide IsNoTest
 
 -- so they are with an entry with which no peer gave a filter more
 pub none_came_same_given : (e : Event) (log : Log)
-    → ((q : ℕ) → given (counted_part (e ∷ log) q) ≡ given (counted_part log q)) → IsSameGiven log (e ∷ log)
+    → ((q : ℕ) → given_filters (counted_part (e ∷ log) q) ≡ given_filters (counted_part log q)) → IsSameGiven log (e ∷ log)
 none_came_same_given e log same1 job = (given_stays e log job, none_came_answers IsNoTest e log same1 job)
 
 -- ---- what is to be tested is of a fetched block
@@ -120,16 +120,16 @@ test_fetched (Took d ∷ log) p block t = fetched_hash_stays (Took d) log block 
 
 -- ---- what came of a block that wasn't fetched was given
 
-asks_none : (o : Option Msg) (t : Trail) → given (counted (asks o t)) ≡ given (counted t)
+asks_none : (o : Option Msg) (t : Trail) → given_filters (counted (asks o t)) ≡ given_filters (counted t)
 asks_none None t = refl
 asks_none (Some m) t = refl
 
 -- no filter comes with what isn't a piece
 abbrev GaveSame : Trail → Part → Type 0
-GaveSame t part = given (counted part.trail) ≡ given (counted t)
+GaveSame t part = given_filters (counted part.trail) ≡ given_filters (counted t)
 
 pub no_piece_gives : (e : Event) (log : Log) → IsNoPiece e → (p : ℕ)
-    → given (counted_part (e ∷ log) p) ≡ given (counted_part log p)
+    → given_filters (counted_part (e ∷ log) p) ≡ given_filters (counted_part log p)
 no_piece_gives (Dialled q name) log is p =
     at_either (GaveSame (trail log p)) (q.0 == p) (called_part (part_of log p)) (part_of log p)
     (λ is. refl) (λ off. refl)
@@ -158,19 +158,19 @@ unfetched_before : (e : Event) (log : Log) (block : Hash) → (IsFetchedHash (e 
     → IsFetchedHash log block → ⊥
 unfetched_before e log block none got = none (fetched_hash_stays e log block got)
 
-came_before : (e : Event) (log : Log) (p : ℕ) (job : Job) → IsNoPiece e → IsIn job (given (counted_part (e ∷ log) p))
-    → IsIn job (given (counted_part log p))
+came_before : (e : Event) (log : Log) (p : ℕ) (job : Job) → IsNoPiece e → IsIn job (given_filters (counted_part (e ∷ log) p))
+    → IsIn job (given_filters (counted_part log p))
 came_before e log p job none i = subst (λ (js : List Job). IsIn job js) (no_piece_gives e log none p) i
 
-pub came_given : (log : Log) (p : ℕ) (job : Job) → IsIn job (given (counted_part log p))
+pub came_given : (log : Log) (p : ℕ) (job : Job) → IsIn job (given_filters (counted_part log p))
     → (IsFetchedHash log job.block.0 → ⊥) → IsGiven log job
 came_given [] p job i none = absurd i
 came_given (Took (Got q piece) ∷ log) p job i none = elim (cases_Bool (q.0 == p)) [
   | inl is ↦ (
       let more = gave_more (Took (Got q piece)) log q.0 in
-      let here : IsIn job (given (counted_part (Took (Got q piece) ∷ log) q.0)) =
-      subst (λ (k : ℕ). IsIn job (given (counted_part (Took (Got q piece) ∷ log) k))) (sym (eqb-true q.0 p is)) i in
-      elim (in_either job more.0 (given (counted_part log q.0)) (subst (λ (js : List Job). IsIn job js) more.1 here)) [
+      let here : IsIn job (given_filters (counted_part (Took (Got q piece) ∷ log) q.0)) =
+      subst (λ (k : ℕ). IsIn job (given_filters (counted_part (Took (Got q piece) ∷ log) k))) (sym (eqb-true q.0 p is)) i in
+      elim (in_either job more.0 (given_filters (counted_part log q.0)) (subst (λ (js : List Job). IsIn job js) more.1 here)) [
         | inl new ↦ inl (
           (λ t. before (test_fetched log q.0 job.block.0 t)),
           record { news = more.0; joined = more.1; among = new },
@@ -183,8 +183,8 @@ came_given (Took (Got q piece) ∷ log) p job i none = elim (cases_Bool (q.0 == 
   before : IsFetchedHash log job.block.0 → ⊥
   before = unfetched_before (Took (Got q piece)) log job.block.0 none
 
-  elsewhere : (q.0 == p) ≡ false → IsIn job (given (counted_part log p))
-  elsewhere off = subst (λ (part : Part). IsIn job (given (counted part.trail))) (piece_of_another q piece log p off) i
+  elsewhere : (q.0 == p) ≡ false → IsIn job (given_filters (counted_part log p))
+  elsewhere off = subst (λ (part : Part). IsIn job (given_filters (counted part.trail))) (piece_of_another q piece log p off) i
 came_given (Took (Gone q) ∷ log) p job i none =
     came_given log p job (came_before (Took (Gone q)) log p job tt i)
     (unfetched_before (Took (Gone q)) log job.block.0 none)

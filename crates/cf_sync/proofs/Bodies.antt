@@ -16,7 +16,7 @@ use Rattle.cf_wires.specs.declared.event.Event.TheVariants.{Took}
 use Rattle.cf_wires.specs.Log.{Log}
 use Rattle.cf_peer.specs.declared.mode.Mode.TheVariants.{Following}
 use Rattle.cf_peer.specs.Trail.{Trail, Said, item_of, item_of_read, hears, hears_fault, part_after, heard_part, part_of, trail}
-use Rattle.cf_peer.specs.Asking.{OpenRequest, BlockOpen, is_wanted, is_committed, counts, counted, fetched, fetched_by, request}
+use Rattle.cf_peer.specs.Asking.{OpenRequest, BlockOpen, is_wanted, is_committed, counts, counted, fetched_blocks, fetched_by, request}
 use Rattle.cf_sync.specs.Fetching.{IsFetched, RightlyIn}
 use Rattle.cf_sync.proofs.Grows.{fetched_before}
 use Rattle.cf_sync.proofs.Modes.{rightly_before_in}
@@ -25,7 +25,7 @@ use Rattle.cf_sync.proofs.Once.{Brings, frames_bring, in_if, newly, open_unfetch
 
 -- of two blocks one was there before, or they are one
 abbrev OneOf : Trail → Block → Block → Type 0
-OneOf t a b = (IsIn a (fetched (counted t)) ⊎ IsIn b (fetched (counted t))) ⊎ (a ≡ b)
+OneOf t a b = (IsIn a (fetched_blocks (counted t)) ⊎ IsIn b (fetched_blocks (counted t))) ⊎ (a ≡ b)
 
 turned : (t : Trail) (a b : Block) → OneOf t b a → OneOf t a b
 turned t a b (inl (inl x)) = inl (inr x)
@@ -37,33 +37,33 @@ by_one : (m : Msg) (r : OpenRequest) (a b : Block) → IsIn a (fetched_by m r) �
 by_one (BlockMessage c) (BlockOpen wanted) a b i j = in_if (is_wanted c wanted && is_committed c) a c i ∙ sym (in_if (is_wanted c wanted && is_committed c) b c j)
 by_one m r a b i j = absurd i
 
-said_one : (m : Msg) (t : Trail) (a b : Block) → IsIn a (fetched (counted (Said m ∷ t))) → IsIn b (fetched (counted (Said m ∷ t))) → OneOf t a b
+said_one : (m : Msg) (t : Trail) (a b : Block) → IsIn a (fetched_blocks (counted (Said m ∷ t))) → IsIn b (fetched_blocks (counted (Said m ∷ t))) → OneOf t a b
 said_one m t a b i j = by (counts m t) i j where
-  both : IsIn a (fetched_by m (request (counted t))) ⊎ IsIn a (fetched (counted t)) → IsIn b (fetched_by m (request (counted t))) ⊎ IsIn b (fetched (counted t)) → OneOf t a b
+  both : IsIn a (fetched_by m (request (counted t))) ⊎ IsIn a (fetched_blocks (counted t)) → IsIn b (fetched_by m (request (counted t))) ⊎ IsIn b (fetched_blocks (counted t)) → OneOf t a b
   both (inr old) z = inl (inl old)
   both (inl new) (inr old) = inl (inr old)
   both (inl new) (inl new2) = inr (by_one m (request (counted t)) a b new new2)
 
-  by : (x : Bool) → IsIn a (fetched (if x then Said m ∷ counted t else counted t)) → IsIn b (fetched (if x then Said m ∷ counted t else counted t)) → OneOf t a b
+  by : (x : Bool) → IsIn a (fetched_blocks (if x then Said m ∷ counted t else counted t)) → IsIn b (fetched_blocks (if x then Said m ∷ counted t else counted t)) → OneOf t a b
   by false i j = inl (inl i)
   by true i j =
-      both (in_either a (fetched_by m (request (counted t))) (fetched (counted t)) i)
-      (in_either b (fetched_by m (request (counted t))) (fetched (counted t)) j)
+      both (in_either a (fetched_by m (request (counted t))) (fetched_blocks (counted t)) i)
+      (in_either b (fetched_by m (request (counted t))) (fetched_blocks (counted t)) j)
 
-item_one : (f : Frame) (t : Trail) (a b : Block) → IsIn a (fetched (counted (item_of f ∷ t))) → IsIn b (fetched (counted (item_of f ∷ t))) → OneOf t a b
+item_one : (f : Frame) (t : Trail) (a b : Block) → IsIn a (fetched_blocks (counted (item_of f ∷ t))) → IsIn b (fetched_blocks (counted (item_of f ∷ t))) → OneOf t a b
 item_one f t a b = by (message_of f) where
-  by : (r : _) → IsIn a (fetched (counted (item_of_read r ∷ t))) → IsIn b (fetched (counted (item_of_read r ∷ t))) → OneOf t a b
+  by : (r : _) → IsIn a (fetched_blocks (counted (item_of_read r ∷ t))) → IsIn b (fetched_blocks (counted (item_of_read r ∷ t))) → OneOf t a b
   by (Ok m) i j = said_one m t a b i j
   by (Err x) i j = inl (inl i)
 
-item_brings : (f : Frame) (t : Trail) (a : Block) → IsIn a (fetched (counted (item_of f ∷ t))) → Brings t (item_of f ∷ t) a
+item_brings : (f : Frame) (t : Trail) (a : Block) → IsIn a (fetched_blocks (counted (item_of f ∷ t))) → Brings t (item_of f ∷ t) a
 item_brings f t a = by (message_of f) where
-  by : (r : _) → IsIn a (fetched (counted (item_of_read r ∷ t))) → Brings t (item_of_read r ∷ t) a
+  by : (r : _) → IsIn a (fetched_blocks (counted (item_of_read r ∷ t))) → Brings t (item_of_read r ∷ t) a
   by (Ok m) i = said_brings m t a i
   by (Err x) i = inl i
 
 -- what a frame brought leaves nothing open that a later one could bring
-one_side : (fs : List Frame) (f : Frame) (t : Trail) (a b : Block) → IsIn a (fetched (counted (item_of f ∷ t))) → IsIn b (fetched (counted (hears fs (item_of f ∷ t)))) → OneOf t a b
+one_side : (fs : List Frame) (f : Frame) (t : Trail) (a b : Block) → IsIn a (fetched_blocks (counted (item_of f ∷ t))) → IsIn b (fetched_blocks (counted (hears fs (item_of f ∷ t)))) → OneOf t a b
 one_side fs f t a b i j = elim (frames_bring fs (item_of f ∷ t) b j) [
   | inl here ↦ item_one f t a b i here
   | inr stands ↦ elim (item_brings f t a i) [
@@ -72,7 +72,7 @@ one_side fs f t a b i j = elim (frames_bring fs (item_of f ∷ t) b j) [
   ]
 ]
 
-frames_one : (fs : List Frame) (t : Trail) (a b : Block) → IsIn a (fetched (counted (hears fs t))) → IsIn b (fetched (counted (hears fs t))) → OneOf t a b
+frames_one : (fs : List Frame) (t : Trail) (a b : Block) → IsIn a (fetched_blocks (counted (hears fs t))) → IsIn b (fetched_blocks (counted (hears fs t))) → OneOf t a b
 frames_one [] t a b i j = inl (inl i)
 frames_one (f ∷ fs) t a b i j = elim (frames_one fs (item_of f ∷ t) a b i j) [
   | inr same ↦ inr same
@@ -82,9 +82,9 @@ frames_one (f ∷ fs) t a b i j = elim (frames_one fs (item_of f ∷ t) a b i j)
   ]
 ]
 
-read_one : (r : StreamRead) (t : Trail) (a b : Block) → IsIn a (fetched (counted (part_after r t).trail)) → IsIn b (fetched (counted (part_after r t).trail)) → OneOf t a b
+read_one : (r : StreamRead) (t : Trail) (a b : Block) → IsIn a (fetched_blocks (counted (part_after r t).trail)) → IsIn b (fetched_blocks (counted (part_after r t).trail)) → OneOf t a b
 read_one r t a b i j = by r.fault i j where
-  by : (o : Option FrameFault) → IsIn a (fetched (counted (hears_fault o (hears r.frames t)))) → IsIn b (fetched (counted (hears_fault o (hears r.frames t)))) → OneOf t a b
+  by : (o : Option FrameFault) → IsIn a (fetched_blocks (counted (hears_fault o (hears r.frames t)))) → IsIn b (fetched_blocks (counted (hears_fault o (hears r.frames t)))) → OneOf t a b
   by None i j = frames_one r.frames t a b i j
   by (Some fault) i j = frames_one r.frames t a b i j
 
@@ -92,14 +92,14 @@ read_one r t a b i j = by r.fault i j where
 one_entry : (e : Event) (log : Log) (a b : Block) → IsFetched (e ∷ log) a → IsFetched (e ∷ log) b → (IsFetched log a ⊎ IsFetched log b) ⊎ (a ≡ b)
 one_entry (Took (Got q piece)) log a b i j = by (q.0 == i.0) refl i.1 (q.0 == j.0) refl j.1 where
   Now : ℕ → Bool → Block → Type 0
-  Now p x c = IsIn c (fetched (counted (if x then heard_part piece (part_of log p) else part_of log p).trail))
+  Now p x c = IsIn c (fetched_blocks (counted (if x then heard_part piece (part_of log p) else part_of log p).trail))
 
   by : (x : Bool) → (q.0 == i.0) ≡ x → Now i.0 x a → (y : Bool) → (q.0 == j.0) ≡ y → Now j.0 y b → (IsFetched log a ⊎ IsFetched log b) ⊎ (a ≡ b)
   by false e u y f v = inl (inl (i.0, u))
   by true e u false f v = inl (inr (j.0, v))
   by true e u true f v =
       let here : j.0 ≡ i.0 = sym (eqb-true q.0 j.0 f) ∙ eqb-true q.0 i.0 e in
-      let w : IsIn b (fetched (counted (heard_part piece (part_of log i.0)).trail)) = subst (λ (p : ℕ). IsIn b (fetched (counted (heard_part piece (part_of log p)).trail))) here v in
+      let w : IsIn b (fetched_blocks (counted (heard_part piece (part_of log i.0)).trail)) = subst (λ (p : ℕ). IsIn b (fetched_blocks (counted (heard_part piece (part_of log p)).trail))) here v in
       elim (read_one (read_stream ((part_of log i.0).waits ++ piece)) (trail log i.0) a b u w) [
         | inr same ↦ inr same
         | inl either ↦ elim either [ inl x ↦ inl (inl (i.0, x)) | inr z ↦ inl (inr (i.0, z)) ]

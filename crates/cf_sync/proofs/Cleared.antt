@@ -7,10 +7,10 @@ use Rattle.cf_dispute.specs.Claims.{Table}
 use Rattle.cf_filter.specs.Filter.{match_of}
 use Rattle.cf_match.specs.Verdicts.{is_miss}
 use Rattle.cf_headers.specs.Chain.{IsIn}
-use Rattle.cf_peer.specs.Asking.{filter_of, claims, hash_claimed, given, counted}
+use Rattle.cf_peer.specs.Asking.{filter_of, claims, hash_claimed, given_filters, counted}
 use Rattle.cf_wires.specs.Log.{Log}
 use Rattle.cf_peer.specs.declared.mode.Mode.TheVariants.{Once}
-use Rattle.cf_peer.specs.Trail.{Trail, part_of, connected, trail}
+use Rattle.cf_peer.specs.Trail.{Trail, part_of, is_connected, trail}
 use Rattle.cf_scan.specs.Watching.{IsWatch}
 use Rattle.cf_sync.specs.Example.{only_header, only_hash, cleared_run, other_watch, only_filter, only_filter_hash}
 use Rattle.cf_sync.specs.Fetching.{IsCleared, IsFetchedHash}
@@ -37,21 +37,21 @@ pub silent_agrees : (t : Trail) → claims (counted t) only_hash.0 ≡ None → 
 silent_agrees t none hash e = absurd (let f : None ≡ Some hash = sym (ap (λ o. option_map (λ (c : Claim). c.hash) o) none) ∙ e in cc)
 
 -- a log in which the honest peer gave its filter, all agree with it, and the block wasn't fetched
-pub cleared_by : (log : Log) (t : Trail) → part_of log 1 ≡ at_rest t → connected t ≡ true → claims (counted t) only_hash.0 ≡ Some only_claim
-    → IsIn (filter_of only_hash only_filter) (given (counted t)) → ((p : ℕ) → AgreesWithIt (trail log p))
+pub cleared_by : (log : Log) (t : Trail) → part_of log 1 ≡ at_rest t → is_connected t ≡ true → claims (counted t) only_hash.0 ≡ Some only_claim
+    → IsIn (filter_of only_hash only_filter) (given_filters (counted t)) → ((p : ℕ) → AgreesWithIt (trail log p))
     → (IsFetchedHash log only_hash.0 → ⊥) → IsCleared other_watch log only_hash.0
 cleared_by log t here on claimed gave agree unfetched = record {
   hash = record { 0 = only_filter_hash };
   agreed = record {
     who = 1;
-    there = of_part (λ u. connected u ≡ true) (part_of log 1) t here on;
+    there = of_part (λ u. is_connected u ≡ true) (part_of log 1) t here on;
     claims = of_part (λ u. hash_claimed (claims (counted u)) only_hash.0 ≡ Some (record { 0 = only_filter_hash })) (part_of log 1) t here
         (ap (λ o. option_map (λ (c : Claim). c.hash) o) claimed);
     alone = λ p hash on is. agree p hash is;
   };
   filter = filter_of only_hash only_filter;
   given = came_given log 1 (filter_of only_hash only_filter)
-      (of_part (λ u. IsIn (filter_of only_hash only_filter) (given (counted u))) (part_of log 1) t here gave) unfetched;
+      (of_part (λ u. IsIn (filter_of only_hash only_filter) (given_filters (counted u))) (part_of log 1) t here gave) unfetched;
   of_block = refl;
   this = only_filter_hash_is;
   verdict = ap (λ (x : List ℕ). is_miss (match_of x other_watch only_filter)) name_is ∙ ap is_miss only_misses;

@@ -14,10 +14,10 @@ use Rattle.cf_msg.specs.declared.msg.Msg.TheVariants.{Verack, Cfheaders, Block a
 use Rattle.cf_msg.specs.Message.{payload_of}
 use Rattle.cf_peer.specs.declared.mode.Mode.TheVariants.{Once}
 use Rattle.cf_peer.specs.Acts.{bytes_of, IsSendable}
-use Rattle.cf_peer.specs.Asking.{block_entry, is_spare, NothingOpen, ClaimsOpen, FiltersOpen, claims_asked, claims, claims_after, claims_fault, hash_claimed, fault_of, request, request_after, is_idle, is_open, verdict, counted, fetched, HasSaid, MayAsk, SameUse, IsFree, filter_fault, filter_of, filters_asked, given, given_by}
+use Rattle.cf_peer.specs.Asking.{block_entry, is_spare, NothingOpen, ClaimsOpen, FiltersOpen, claims_asked, claims, claims_after, claims_fault, hash_claimed, fault_of, request, request_after, is_idle, is_open, verdict, counted, fetched_blocks, HasSaid, MayAsk, SameUse, IsFree, filter_fault, filter_of, filters_asked, given_filters, given_by}
 use Rattle.cf_wires.specs.Log.{Log}
 use Rattle.cf_wires.specs.declared.event.Mark.TheVariants as mark
-use Rattle.cf_peer.specs.Trail.{Trail, Said, Asked, part_of, trail, connected, own, is_heard_out, longer_of, ends_by, fault_in, first, Lost, with_item}
+use Rattle.cf_peer.specs.Trail.{Trail, Said, Asked, part_of, trail, is_connected, own, is_heard_out, longer_of, ends_by, fault_in, first, Lost, with_item}
 use Rattle.cf_scan.specs.Scan.{scan_of}
 use Rattle.cf_scan.specs.Watching.{IsWatch}
 use Rattle.cf_bytes.specs.Hash.{hash_of}
@@ -414,11 +414,11 @@ right_22 = (
 -- ---- the dispute
 
 -- a log with what both claim
-disputed_by : (log : Log) (t : Trail) → part_of log 1 ≡ at_rest t → part_of log 2 ≡ at_rest v_9 → connected t ≡ true → claims (counted t) only_hash.0 ≡ Some only_claim → IsDisputed log only_hash.0
+disputed_by : (log : Log) (t : Trail) → part_of log 1 ≡ at_rest t → part_of log 2 ≡ at_rest v_9 → is_connected t ≡ true → claims (counted t) only_hash.0 ≡ Some only_claim → IsDisputed log only_hash.0
 disputed_by log t one two on claimed = record {
   one = 1;
   other = 2;
-  there = (of_part (λ x. connected x ≡ true) (part_of log 1) t one on, of_part (λ x. connected x ≡ true) (part_of log 2) v_9 two refl);
+  there = (of_part (λ x. is_connected x ≡ true) (part_of log 1) t one on, of_part (λ x. is_connected x ≡ true) (part_of log 2) v_9 two refl);
   mine = record { 0 = only_filter_hash };
   yours = record { 0 = false_filter_hash };
   claims = (
@@ -442,7 +442,7 @@ disputed_wanted watch = ((λ got. none_fetched got.0 got.1), inl (disputed_by di
 -- ---- each is asked for its filter, and the second's omits something
 
 fetched_by_22 : IsFetched dispute_22 only_block
-fetched_by_22 = (1, of_part (λ t. IsIn only_block (fetched (counted t))) (part_of dispute_22 1) t_13 part_22 fetched_13)
+fetched_by_22 = (1, of_part (λ t. IsIn only_block (fetched_blocks (counted t))) (part_of dispute_22 1) t_13 part_22 fetched_13)
 
 got_by_22 : IsFetchedHash dispute_22 only_hash.0
 got_by_22 = (only_block, fetched_by_22, refl)
@@ -450,12 +450,12 @@ got_by_22 = (only_block, fetched_by_22, refl)
 got_by_23 : IsFetchedHash dispute_23 only_hash.0
 got_by_23 = (only_block, fetched_by_23, refl) where
   fetched_by_23 : IsFetched dispute_23 only_block
-  fetched_by_23 = (1, of_part (λ t. IsIn only_block (fetched (counted t))) (part_of dispute_23 1) t_14 part_24 fetched_13)
+  fetched_by_23 = (1, of_part (λ t. IsIn only_block (fetched_blocks (counted t))) (part_of dispute_23 1) t_14 part_24 fetched_13)
 
 is_fetched : IsFetched disputed_run only_block
-is_fetched = (1, of_part (λ t. IsIn only_block (fetched (counted t))) (part_of disputed_run 1) t_15 part_27 fetched_15) where
-  fetched_15 : IsIn only_block (fetched (counted t_15))
-  fetched_15 = subst (λ (t : Trail). IsIn only_block (fetched t)) (sym (said_counts its_filter t_14 refl clean_15)) fetched_13
+is_fetched = (1, of_part (λ t. IsIn only_block (fetched_blocks (counted t))) (part_of disputed_run 1) t_15 part_27 fetched_15) where
+  fetched_15 : IsIn only_block (fetched_blocks (counted t_15))
+  fetched_15 = subst (λ (t : Trail). IsIn only_block (fetched_blocks t)) (sym (said_counts its_filter t_14 refl clean_15)) fetched_13
 
 -- nothing but the fetched block's filter is asked for, so that it is open to nobody who might give another's
 filter_alone : (log : Log) (p : ℕ) (t : Trail) → part_of log p ≡ at_rest t → own t ≡ only_header ∷ [] → IsFetchedHash log only_hash.0 → IsAlone log p ask_filter
@@ -493,12 +493,12 @@ claimed_11 = ap (λ (c : Table). c only_hash.0) same_11.claiming ∙ claim_found
 abbrev false_job : Job
 false_job = filter_of only_hash []
 
-given_11 : given (counted v_11) ≡ false_job ∷ given (counted v_10)
+given_11 : given_filters (counted v_11) ≡ false_job ∷ given_filters (counted v_10)
 given_11 =
     let open_there : request (counted v_10) ≡ FiltersOpen (only_hash.0 ∷ []) [] = (same_use v_10 refl clean_9).open_one ∙ open_10 in
     let by : given_by false_answer (request (counted v_10)) ≡ false_job ∷ [] =
     ap (λ r. given_by false_answer r) open_there ∙ rw self_hash refl in
-    ap given (said_counts false_answer v_10 refl clean_11) ∙ ap (λ (js : List Job). js ++ given (counted v_10)) by
+    ap given_filters (said_counts false_answer v_10 refl clean_11) ∙ ap (λ (js : List Job). js ++ given_filters (counted v_10)) by
 
 -- the second was asked after the block was fetched
 is_test : IsTest dispute_25 2 only_hash.0
@@ -509,15 +509,15 @@ is_tested = inl (
   is_test,
   record {
     news = false_job ∷ [];
-    joined = of_part (λ t. given (counted t) ≡ false_job ∷ given (counted_part dispute_25 2)) (part_of dispute_26 2) v_11 other_26
-        (given_11 ∙ ap (λ (js : List Job). false_job ∷ js) (sym (of_part (λ t. given (counted t) ≡ given (counted v_10)) (part_of dispute_25 2) v_10 other_24 refl)));
+    joined = of_part (λ t. given_filters (counted t) ≡ false_job ∷ given_filters (counted_part dispute_25 2)) (part_of dispute_26 2) v_11 other_26
+        (given_11 ∙ ap (λ (js : List Job). false_job ∷ js) (sym (of_part (λ t. given_filters (counted t) ≡ given_filters (counted v_10)) (part_of dispute_25 2) v_10 other_24 refl)));
     among = inl refl;
   },
 )
 
 pub liar_omits : IsOmitting dispute_26 2
 liar_omits = record {
-  there = of_part (λ t. connected t ≡ true) (part_of dispute_26 2) v_11 other_26 refl;
+  there = of_part (λ t. is_connected t ≡ true) (part_of dispute_26 2) v_11 other_26 refl;
   block = only_hash.0;
   hash = record { 0 = false_filter_hash };
   claimed = of_part (λ t. hash_claimed (claims (counted t)) only_hash.0 ≡ Some (record { 0 = false_filter_hash })) (part_of dispute_26 2) v_11 other_26
@@ -527,8 +527,8 @@ liar_omits = record {
     body = only_block;
     fetched = (
       1,
-      of_part (λ t. IsIn only_block (fetched (counted t))) (part_of dispute_26 1) t_15 part_26
-          (subst (λ (t : Trail). IsIn only_block (fetched t)) (sym (said_counts its_filter t_14 refl clean_15)) fetched_13),
+      of_part (λ t. IsIn only_block (fetched_blocks (counted t))) (part_of dispute_26 1) t_15 part_26
+          (subst (λ (t : Trail). IsIn only_block (fetched_blocks t)) (sym (said_counts its_filter t_14 refl clean_15)) fetched_13),
     );
     of_block = refl;
     lacking = nothing_lacks only_hash.0 (output_items_of only_block);
@@ -595,8 +595,8 @@ disputed_asked watch fits =
       -- the first alone is left
       no_dispute : (block : List ℕ) → IsDisputed disputed_run block → ⊥
       no_dispute block d = d.apart (one_hash (alone d.one d.mine d.there.0 d.claims.0) (alone d.other d.yours d.there.1 d.claims.1)) where
-        alone : (q : ℕ) (hash : Hash32) → connected (trail disputed_run q) ≡ true → HasClaimed disputed_run q block hash → hash_claimed (claims (counted t_15)) block ≡ Some hash
-        alone q hash on = of_each (λ t. connected t ≡ true → hash_claimed (claims (counted t)) block ≡ Some hash → hash_claimed (claims (counted t_15)) block ≡ Some hash) q
+        alone : (q : ℕ) (hash : Hash32) → is_connected (trail disputed_run q) ≡ true → HasClaimed disputed_run q block hash → hash_claimed (claims (counted t_15)) block ≡ Some hash
+        alone q hash on = of_each (λ t. is_connected t ≡ true → hash_claimed (claims (counted t)) block ≡ Some hash → hash_claimed (claims (counted t_15)) block ≡ Some hash) q
             (λ is1 e. e) (λ is1. absurd (false≢true is1)) (λ is1. absurd (false≢true is1)) on
 
         one_hash : {a b : Hash32} → hash_claimed (claims (counted t_15)) block ≡ Some a → hash_claimed (claims (counted t_15)) block ≡ Some b → a ≡ b

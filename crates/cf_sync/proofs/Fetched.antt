@@ -12,7 +12,7 @@ use Rattle.cf_headers.specs.Chain.{Chain, fits, IsIn, NoHashClash, Hash}
 use Rattle.cf_msg.specs.declared.msg.Msg.{Msg}
 use Rattle.cf_msg.specs.declared.msg.Msg.TheVariants.{Verack, Block as BlockMessage}
 use Rattle.cf_peer.specs.Acts.{bytes_of}
-use Rattle.cf_peer.specs.Asking.{is_spare, NothingOpen, FiltersOpen, BlockOpen, filters_asked, claims, filter_fault, fault_of, request_after, IsFree, request, is_wanted, is_open, block_fault, verdict, counted, fetched, fetched_by, block_entry, hashes_of, MayAsk, hash_claimed}
+use Rattle.cf_peer.specs.Asking.{is_spare, NothingOpen, FiltersOpen, BlockOpen, filters_asked, claims, filter_fault, fault_of, request_after, IsFree, request, is_wanted, is_open, block_fault, verdict, counted, fetched_blocks, fetched_by, block_entry, hashes_of, MayAsk, hash_claimed}
 use Rattle.cf_wires.specs.Log.{Log}
 use Rattle.cf_peer.specs.declared.mode.Mode.TheVariants.{Once}
 use Rattle.cf_peer.specs.Trail.{Trail, Said, Asked, part_of, trail, is_heard_out, first}
@@ -175,15 +175,15 @@ request_15 = ap (λ r. request_after its_filter r) request_14 ∙ rw self_hash r
 pub counts_15 : Counts t_15
 counts_15 = counts_of t_15 refl clean_15 refl (still_true (is_heard_out t_13) (still_true (is_heard_out t_11) heard_out_11)) refl refl
 
-pub fetched_13 : IsIn only_block (fetched (counted t_13))
+pub fetched_13 : IsIn only_block (fetched_blocks (counted t_13))
 fetched_13 =
     let open_12 : request (counted t_12) ≡ BlockOpen only_hash.0 = (same_use t_12 refl clean_11).open_one in
     let one : counted t_13 ≡ Said its_block ∷ counted t_12 = said_counts its_block t_12 refl clean_13 in
     let by : fetched_by its_block (request (counted t_12)) ≡ only_block ∷ [] = ap (λ r. fetched_by its_block r) open_12 ∙ rw (only_wanted, committed_is only_block committed) refl in
-    subst (λ (t : Trail). IsIn only_block (fetched t)) (sym one) (subst (λ (bs : List Block). IsIn only_block (bs ++ fetched (counted t_12))) (sym by) (inl refl))
+    subst (λ (t : Trail). IsIn only_block (fetched_blocks t)) (sym one) (subst (λ (bs : List Block). IsIn only_block (bs ++ fetched_blocks (counted t_12))) (sym by) (inl refl))
 
 is_fetched : IsFetched run_of_two only_block
-is_fetched = (1, of_part (λ t. IsIn only_block (fetched (counted t))) (part_of run_of_two 1) t_13 part_20 fetched_13)
+is_fetched = (1, of_part (λ t. IsIn only_block (fetched_blocks (counted t))) (part_of run_of_two 1) t_13 part_20 fetched_13)
 
 pub is_quiet : IsQuiet run_of_two
 is_quiet p = of_each (λ t. is_open t ≡ false) p (rw only_wanted refl) refl refl

@@ -19,7 +19,7 @@ use Rattle.cf_wires.specs.declared.event.Mark.TheVariants as mark
 use Rattle.cf_peer.specs.declared.mode.Mode.TheVariants.{Following}
 use Rattle.cf_peer.specs.declared.peer.Cause.{Cause}
 use Rattle.cf_wires.specs.Log.{Log}
-use Rattle.cf_peer.specs.Trail.{Trail, Part, Asked, Lost, called_part, with_item, hears, hears_fault, part_after, heard_part, spelled, asks, part_of, trail, connected, failed}
+use Rattle.cf_peer.specs.Trail.{Trail, Part, Asked, Lost, called_part, with_item, hears, hears_fault, part_after, heard_part, spelled, asks, part_of, trail, is_connected, has_failed}
 use Rattle.cf_peer.specs.Asking.{is_open, age, claims, verdict, Deserves}
 use Rattle.cf_scan.specs.declared.history.Entry.{Entry}
 use Rattle.cf_sync.specs.Fetching.{AreBytes, DeservesIn, IsConnected, IsOmitting, IsQuiet, RightlyIn}
@@ -41,13 +41,13 @@ use Rattle.cf_sync.proofs.Settles.{setting_from, history_over, followed_in}
 
 -- it is connected once it was dialled, what is open to it is young, and no send to it has failed
 record Sound (t : Trail) : Type 0 where
-  on : was_called t ≡ true → connected t ≡ true
+  on : was_called t ≡ true → is_connected t ≡ true
   young : is_open t ≡ true → age t < 60
-  whole : failed t ≡ false
+  whole : has_failed t ≡ false
 
 not_deserves : (t : Trail) (cause : Cause) → Sound t → verdict t ≡ None → Deserves t cause → ⊥
 not_deserves t cause s clean (inl words) = (let w = words.1 in let no : None ≡ Some cause = sym clean ∙ w in cc)
-not_deserves t cause s clean (inr (inl fault)) = both_ways (failed t) s.whole fault.1
+not_deserves t cause s clean (inr (inl fault)) = both_ways (has_failed t) s.whole fault.1
 not_deserves t cause s clean (inr (inr late)) = (let y = s.young late.1 in absurd (omega (arith, late.2)))
 
 -- what holds of a peer that is never closed: no words of its own deserve it, and it omits nothing

@@ -18,7 +18,7 @@ use Rattle.cf_peer.specs.declared.peer.Cause.{Cause}
 use Rattle.cf_peer.specs.declared.peer.Cause.TheVariants.{WrongCount, WrongPrevious}
 use Rattle.cf_peer.specs.declared.mode.Mode.TheVariants.{Following}
 use Rattle.cf_wires.specs.Log.{Log}
-use Rattle.cf_peer.specs.Trail.{Trail, Said, Asked, trail, connected, own, WasAsked}
+use Rattle.cf_peer.specs.Trail.{Trail, Said, Asked, trail, is_connected, own, WasAsked}
 use Rattle.cf_peer.specs.Asking.{OpenRequest, NothingOpen, ClaimsOpen, is_answer_of, is_this, blocks_from, block_below, claims_asked, claims, claims_after, claims_fault, request, request_after, fault_of, verdict, lists, IsClaimed, IsRange, MayAskIn}
 use Rattle.cf_sync.specs.Fetching.{AreBytes, IsConnected, MaySendIn, RightlyIn}
 use Rattle.cf_sync.specs.Sync.{IsHashed}
@@ -90,7 +90,7 @@ abbrev pub range_said : (m : Msg) (t : Trail) (start : ℕ) (stop : Hash) → Is
 range_said m t start stop w =
     record { chain = w.chain; shown = shown_more m t w.chain w.shown; part = w.part; tip = w.tip; low = w.low; high = w.high }
 
-abbrev pub range_asked : (t : Trail) (filter start : ℕ) (stop : Hash) (few : ℕ) → connected t ≡ true → verdict t ≡ None
+abbrev pub range_asked : (t : Trail) (filter start : ℕ) (stop : Hash) (few : ℕ) → is_connected t ≡ true → verdict t ≡ None
     → IsRange t filter start stop few → IsShownRange (lists t) start stop
 range_asked t filter start stop few on clean r =
     record { chain = own t; shown = own_is_shown t on clean; part = r.part; tip = r.tip; low = r.low; high = r.high }
@@ -132,7 +132,7 @@ after_said m t start stop clean w = (
   ],
 )
 
-has_since : (t : Trail) → connected t ≡ true → verdict t ≡ None → AskedRightlyIn Following t → (filter start : ℕ) (stop : Hash32) → WasAsked t (GetCfheaders filter start stop) → Since t start stop.0
+has_since : (t : Trail) → is_connected t ≡ true → verdict t ≡ None → AskedRightlyIn Following t → (filter start : ℕ) (stop : Hash32) → WasAsked t (GetCfheaders filter start stop) → Since t start stop.0
 has_since t on clean right filter start stop =
     since_asked Following (GetCfheaders filter start stop) (λ u. Since u start stop.0)
     (λ u on clean may. (range_asked u filter start stop.0 2000 on clean may.1.0, inl (ap (λ o. claims_asked start stop.0 o) may.1.0.tip)))

@@ -16,8 +16,8 @@ use Rattle.cf_msg.specs.declared.msg.Msg.TheVariants.{Ping, Pong, GetHeaders, He
 use Rattle.cf_peer.specs.declared.peer.Cause.TheVariants.{OtherFilter}
 use Rattle.cf_peer.specs.declared.mode.Mode.TheVariants.{Following}
 use Rattle.cf_wires.specs.Log.{Log}
-use Rattle.cf_peer.specs.Trail.{Trail, Part, Called, Said, Refused, Asked, Passed, Lost, part_of, trail, connected, own, WasAsked}
-use Rattle.cf_peer.specs.Asking.{OpenRequest, NothingOpen, HeadersOpen, ClaimsOpen, FiltersOpen, BlockOpen, is_answer_of, is_this, is_wanted, blocks_from, block_below, claims_asked, filters_asked, filters_left, filter_of, filter_fault, claims, claims_after, given, given_by, hash_claimed, request, request_for, request_after, fault_of, verdict, counted, lists, IsClaimed, MayAskIn, PingOpen}
+use Rattle.cf_peer.specs.Trail.{Trail, Part, Called, Said, Refused, Asked, Passed, Lost, part_of, trail, is_connected, own, WasAsked}
+use Rattle.cf_peer.specs.Asking.{OpenRequest, NothingOpen, HeadersOpen, ClaimsOpen, FiltersOpen, BlockOpen, is_answer_of, is_this, is_wanted, blocks_from, block_below, claims_asked, filters_asked, filters_left, filter_of, filter_fault, claims, claims_after, given_filters, given_by, hash_claimed, request, request_for, request_after, fault_of, verdict, counted, lists, IsClaimed, MayAskIn, PingOpen}
 use Rattle.cf_sync.specs.Fetching.{AreBytes, IsConnected, IsFetchedHash, IsFilterWanted, IsGiven, AreFiltersWanted, MaySendIn, RightlyIn, blocks_in}
 use Rattle.cf_sync.specs.Planned.{Alike, IsPlanned, is_untold}
 use Rattle.cf_sync.specs.Sync.{IsHashed}
@@ -95,7 +95,7 @@ asked_fresh (GetData entries) t may fresh stop parent blocks e block i claimed =
 asked_fresh (Ping number) t may fresh stop parent blocks e block i claimed = absurd (let no : PingOpen number ≡ ClaimsOpen stop parent blocks = e in cc)
 asked_fresh m t may fresh stop parent blocks e block i claimed = fresh stop parent blocks e block i claimed
 
-pub are_fresh : (t : Trail) → connected t ≡ true → verdict t ≡ None → AskedRightlyIn Following t → AreFresh t
+pub are_fresh : (t : Trail) → is_connected t ≡ true → verdict t ≡ None → AskedRightlyIn Following t → AreFresh t
 are_fresh [] on clean right stop parent blocks e block i claimed = absurd (false≢true on)
 are_fresh (Called ∷ t) on clean right stop parent blocks e block i claimed = absurd (let no : NothingOpen ≡ ClaimsOpen stop parent blocks = e in cc)
 are_fresh (Said m ∷ t) on clean right stop parent blocks e block i claimed =
@@ -137,7 +137,7 @@ abbrev pub AreGivenBy : Msg → Trail → List Hash → Type 0
 AreGivenBy m t blocks = (block : Hash) → IsIn block blocks → (job : Job) × IsIn job (given_by m (request t)) × (job.block.0 ≡ block) × IsItsOwn (Said m ∷ t) job
 
 abbrev AreGiven : Trail → List Hash → Type 0
-AreGiven t blocks = (block : Hash) → IsIn block blocks → (job : Job) × IsIn job (given (counted t)) × (job.block.0 ≡ block) × IsItsOwn t job
+AreGiven t blocks = (block : Hash) → IsIn block blocks → (job : Job) × IsIn job (given_filters (counted t)) × (job.block.0 ≡ block) × IsItsOwn t job
 
 abbrev Since : Trail → ℕ → Hash → Type 0
 Since t start stop =
@@ -197,7 +197,7 @@ one_given filter block bytes t job clean gives = by (request t) refl gives where
   ]
 
 -- the next filter has come, and what it was asked for is open with one fewer, or all was given
-next_came : (filter : ℕ) (block : Hash32) (bytes : List ℕ) (t : Trail) (next : Hash) (more : List Hash) (came : List Job) (blocks : List Hash) → connected t ≡ true → verdict (Said (Cfilter filter block bytes) ∷ t) ≡ None
+next_came : (filter : ℕ) (block : Hash32) (bytes : List ℕ) (t : Trail) (next : Hash) (more : List Hash) (came : List Job) (blocks : List Hash) → is_connected t ≡ true → verdict (Said (Cfilter filter block bytes) ∷ t) ≡ None
     → AreFresh t → request t ≡ FiltersOpen (next ∷ more) came → is_answer_of filter block.0 next ≡ true → ((job : Job) → IsIn job came → IsItsOwn t job)
     → ((x : Hash) → IsIn x blocks → ((job : Job) × IsIn job came × (job.block.0 ≡ x)) ⊎ IsIn x (next ∷ more))
     → AreComing (Said (Cfilter filter block bytes) ∷ t) blocks ⊎ AreGivenBy (Cfilter filter block bytes) t blocks
@@ -252,7 +252,7 @@ stays_coming m t blocks w fresh same = record {
   each = w.each;
 }
 
-pub coming_said : (m : Msg) (t : Trail) (blocks : List Hash) → connected t ≡ true → verdict (Said m ∷ t) ≡ None → AreFresh t → AreComing t blocks → AreComing (Said m ∷ t) blocks ⊎ AreGivenBy m t blocks
+pub coming_said : (m : Msg) (t : Trail) (blocks : List Hash) → is_connected t ≡ true → verdict (Said m ∷ t) ≡ None → AreFresh t → AreComing t blocks → AreComing (Said m ∷ t) blocks ⊎ AreGivenBy m t blocks
 coming_said (Cfilter filter block bytes) t blocks on clean fresh w = by w.left refl where
   by : (left : List Hash) → w.left ≡ left → AreComing (Said (Cfilter filter block bytes) ∷ t) blocks ⊎ AreGivenBy (Cfilter filter block bytes) t blocks
   by [] is = inl (stays_coming (Cfilter filter block bytes) t blocks w fresh
@@ -269,18 +269,18 @@ coming_said (Cfheaders filter at previous hashes) t blocks on clean fresh w = in
 coming_said (BlockMessage b) t blocks on clean fresh w = inl (stays_coming (BlockMessage b) t blocks w fresh refl)
 coming_said m t blocks on clean fresh w = inl (stays_coming m t blocks w fresh refl)
 
-given_said : (m : Msg) (t : Trail) (blocks : List Hash) → connected t ≡ true → verdict (Said m ∷ t) ≡ None → AreFresh t → AreGiven t blocks → AreGiven (Said m ∷ t) blocks
+given_said : (m : Msg) (t : Trail) (blocks : List Hash) → is_connected t ≡ true → verdict (Said m ∷ t) ≡ None → AreFresh t → AreGiven t blocks → AreGiven (Said m ∷ t) blocks
 given_said m t blocks on clean fresh all block i =
     let w = all block i in
-    (w.0, subst (λ (js : List Job). IsIn w.0 js) (sym (said_gives m t on clean)) (in_right w.0 (given_by m (request t)) (given (counted t)) w.1), w.2, its_own m t fresh w.0 w.3)
+    (w.0, subst (λ (js : List Job). IsIn w.0 js) (sym (said_gives m t on clean)) (in_right w.0 (given_by m (request t)) (given_filters (counted t)) w.1), w.2, its_own m t fresh w.0 w.3)
 
-after_said : (m : Msg) (t : Trail) (start : ℕ) (stop : Hash) → connected t ≡ true → verdict (Said m ∷ t) ≡ None → AreFresh t → Since t start stop → Since (Said m ∷ t) start stop
+after_said : (m : Msg) (t : Trail) (start : ℕ) (stop : Hash) → is_connected t ≡ true → verdict (Said m ∷ t) ≡ None → AreFresh t → Since t start stop → Since (Said m ∷ t) start stop
 after_said m t start stop on clean fresh w = (
   range_said m t start stop w.0,
   elim w.1 [
     | inl coming ↦ elim (coming_said m t (blocks_from start w.0.part) on clean fresh coming) [
       | inl more ↦ inl more
-      | inr now ↦ inr (λ x i. (let g = now x i in (g.0, subst (λ (js : List Job). IsIn g.0 js) (sym (said_gives m t on clean)) (in_left g.0 (given_by m (request t)) (given (counted t)) g.1), g.2, g.3)))
+      | inr now ↦ inr (λ x i. (let g = now x i in (g.0, subst (λ (js : List Job). IsIn g.0 js) (sym (said_gives m t on clean)) (in_left g.0 (given_by m (request t)) (given_filters (counted t)) g.1), g.2, g.3)))
     ]
     | inr all ↦ inr (given_said m t (blocks_from start w.0.part) on clean fresh all)
   ],
@@ -310,7 +310,7 @@ coming_asked m t blocks may c = record {
 pub coming_passed : (s : ℕ) (t : Trail) (blocks : List Hash) → AreComing t blocks → AreComing (Passed s ∷ t) blocks
 coming_passed s t blocks c = record { left = c.left; came = c.came; is = c.is; true_ones = c.true_ones; each = c.each }
 
-has_since : (t : Trail) → connected t ≡ true → verdict t ≡ None → AskedRightlyIn Following t → (filter start : ℕ) (stop : Hash32) → WasAsked t (GetCfilters filter start stop) → Since t start stop.0
+has_since : (t : Trail) → is_connected t ≡ true → verdict t ≡ None → AskedRightlyIn Following t → (filter start : ℕ) (stop : Hash32) → WasAsked t (GetCfilters filter start stop) → Since t start stop.0
 has_since t on clean right filter start stop =
     since_asked Following (GetCfilters filter start stop) (λ u. Since u start stop.0)
     (λ u on clean may. (range_asked u filter start stop.0 1000 on clean may.1.0, inl (coming_first filter start stop u may.1.0.part may.1.0.tip)))
@@ -342,7 +342,7 @@ filters_not_by planned log p right bytes clash on clean one filter start stop ma
           sym (ap (λ (o : Option Claim). option_map (λ (c : Claim). c.hash) o) (sym (ap (claims t) got.2) ∙ got.3.1)) ∙ sym (ap (λ (c : Table). hash_claimed c x.0) (same_use t on clean).claiming) ∙ claimed in
           let hash : got.3.0.hash ≡ wanted.1.0 = cc in
           let gave : IsGiven planned got.0 =
-          came_given planned p got.0 (subst (λ (q : Part). IsIn got.0 (given (counted q.trail))) (sym one) got.1)
+          came_given planned p got.0 (subst (λ (q : Part). IsIn got.0 (given_filters (counted q.trail))) (sym one) got.1)
           (λ fetched. wanted.0 (subst (λ (b : Hash). IsFetchedHash planned b) got.2 fetched)) in
           wanted.1.1.2 (got.0, gave, got.2, sym got.3.2 ∙ ap (λ (h : Hash32). h.0) hash)
           )

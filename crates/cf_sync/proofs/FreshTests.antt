@@ -23,8 +23,8 @@ use Rattle.cf_wires.specs.declared.event.Event.{Event}
 use Rattle.cf_wires.specs.declared.event.Event.TheVariants.{Dialled, NotDialled, Sent, SendFailed, Closed, Took}
 use Rattle.cf_wires.specs.declared.event.Mark.TheVariants as mark
 use Rattle.cf_wires.specs.Log.{Log}
-use Rattle.cf_peer.specs.Trail.{Trail, Part, Said, Refused, Asked, Passed, Lost, called_part, with_item, item_of, item_of_read, hears, hears_fault, part_after, heard_part, spelled, asks, part_of, trail, connected, own}
-use Rattle.cf_peer.specs.Asking.{NothingOpen, FiltersOpen, blocks_from, claims, given, given_by, hash_claimed, request, fault_of, verdict, counted, MayAskIn}
+use Rattle.cf_peer.specs.Trail.{Trail, Part, Said, Refused, Asked, Passed, Lost, called_part, with_item, item_of, item_of_read, hears, hears_fault, part_after, heard_part, spelled, asks, part_of, trail, is_connected, own}
+use Rattle.cf_peer.specs.Asking.{NothingOpen, FiltersOpen, blocks_from, claims, given_filters, given_by, hash_claimed, request, fault_of, verdict, counted, MayAskIn}
 use Rattle.cf_headers.proofs.Found.{back_ends}
 use Rattle.cf_sync.specs.Blame.{WasAskedSince}
 use Rattle.cf_sync.specs.Fetching.{IsAlone, IsConnected, blocks_in, IsFetchedHash, IsNew, IsTest, IsTested, IsTestOf, MaySendIn, RightlyIn, test_after}
@@ -73,7 +73,7 @@ clean_before (f ∷ fs) t clean = by (message_of f) (clean_before fs (item_of f 
   by (Err x) e = (first_none (verdict t) (Some IsMalformed) e).0
 
 abbrev IsClean : Trail → Type 0
-IsClean t = (connected t ≡ true) × (verdict t ≡ None)
+IsClean t = (is_connected t ≡ true) × (verdict t ≡ None)
 
 -- a connected peer that deserves nothing after a piece deserved nothing before it
 was_clean : (r : StreamRead) (t : Trail) → IsClean (part_after r t).trail → IsClean t
@@ -83,13 +83,13 @@ was_clean r t s = by r.fault s where
   by (Some fault) s = (still_connected r.frames t s.0, clean_before r.frames t (first_none (verdict (hears r.frames t)) (Some BadFrame) s.1).0)
 
 -- what each message keeps is kept by a piece
-module _ (P : Trail → Type 0) (said : (m : Msg) (t : Trail) → connected t ≡ true → verdict (Said m ∷ t) ≡ None → AreFresh t → P t → P (Said m ∷ t)) where
+module _ (P : Trail → Type 0) (said : (m : Msg) (t : Trail) → is_connected t ≡ true → verdict (Said m ∷ t) ≡ None → AreFresh t → P t → P (Said m ∷ t)) where
   through_frames : (fs : List Frame) (t : Trail) → IsClean (hears fs t) → AskedRightlyIn Following t → P t → P (hears fs t)
   through_frames [] t s right h = h
   through_frames (f ∷ fs) t s right h = elim (message_of f) as (λ r. IsClean (hears fs (item_of_read r ∷ t)) → P (hears fs (item_of_read r ∷ t))) [
     | Ok m ↦ λ s1. (
         let clean : verdict (Said m ∷ t) ≡ None = clean_before fs (Said m ∷ t) s1.1 in
-        let on : connected t ≡ true = still_connected fs (Said m ∷ t) s1.0 in
+        let on : is_connected t ≡ true = still_connected fs (Said m ∷ t) s1.0 in
         through_frames fs (Said m ∷ t) s1 right (said m t on clean (are_fresh t on (first_none (verdict t) (fault_of m t) clean).0 right) h)
         )
     | Err x ↦ λ s1. absurd (let no = (first_none (verdict t) (Some IsMalformed) (clean_before fs (Refused IsMalformed ∷ t) s1.1)).1 in cc)
@@ -104,10 +104,10 @@ module _ (P : Trail → Type 0) (said : (m : Msg) (t : Trail) → connected t �
 -- the filters of the blocks are coming, or came since there were these
 record AreSince (base : List Job) (blocks : List Hash) (t : Trail) : Type 0 where
   news : List Job
-  joined : given (counted t) ≡ news ++ base
+  joined : given_filters (counted t) ≡ news ++ base
   since : AreComing t blocks ⊎ ((block : Hash) → IsIn block blocks → (job : Job) × IsIn job news × (job.block.0 ≡ block) × IsItsOwn t job)
 
-since_said : (base : List Job) (blocks : List Hash) (m : Msg) (t : Trail) → connected t ≡ true → verdict (Said m ∷ t) ≡ None → AreFresh t → AreSince base blocks t → AreSince base blocks (Said m ∷ t)
+since_said : (base : List Job) (blocks : List Hash) (m : Msg) (t : Trail) → is_connected t ≡ true → verdict (Said m ∷ t) ≡ None → AreFresh t → AreSince base blocks t → AreSince base blocks (Said m ∷ t)
 since_said base blocks m t on clean fresh w = record {
   news = given_by m (request t) ++ w.news;
   joined = said_gives m t on clean ∙ ap (λ (js : List Job). given_by m (request t) ++ js) w.joined ∙ sym (append_assoc (given_by m (request t)) w.news base);
@@ -180,7 +180,7 @@ tried_heard q piece log p start stop is s right w = (
   w.0,
   elim w.1 [
     | inl c ↦ (
-        let base : List Job = given (counted (trail log p)) in
+        let base : List Job = given_filters (counted (trail log p)) in
         let a = through (AreSince base blocks) (since_said base blocks) r (trail log p) s right (record { news = []; joined = refl; since = inl c.1 }) in
         elim a.since [
           | inl coming ↦ inl (c.0, coming)
@@ -199,12 +199,12 @@ tried_heard q piece log p start stop is s right w = (
   last : IsIn stop blocks
   last = subst (λ (x : Hash). IsIn x blocks) w.0.tip (tip_last start w.0.part w.0.low w.0.high)
 
-  now : IsTest log p stop → (news : List Job) (job : Job) → given (counted (heard_part piece (part_of log p)).trail) ≡ news ++ given (counted (trail log p)) → IsIn job news → job.block.0 ≡ stop
+  now : IsTest log p stop → (news : List Job) (job : Job) → given_filters (counted (heard_part piece (part_of log p)).trail) ≡ news ++ given_filters (counted (trail log p)) → IsIn job news → job.block.0 ≡ stop
       → IsTest log q.0 job.block.0 × IsNew (Took (Got q piece)) log q.0 job
   now test news job joined among of_stop =
       subst (λ (k : ℕ). IsTest log k job.block.0 × IsNew (Took (Got q piece)) log k job) (sym (eqb-true q.0 p is)) (
         subst (λ (x : Hash). IsTest log p x) (sym of_stop) test,
-        record { news = news; joined = ap (λ (b : Bool). given (counted (if b then heard_part piece (part_of log p) else part_of log p).trail)) is ∙ joined; among = among },
+        record { news = news; joined = ap (λ (b : Bool). given_filters (counted (if b then heard_part piece (part_of log p) else part_of log p).trail)) is ∙ joined; among = among },
       )
 
 abbrev IsTriedIn : Event → Log → ℕ → ℕ → Hash → Part → Type 0

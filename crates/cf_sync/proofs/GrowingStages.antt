@@ -6,7 +6,7 @@ use Rattle.cf_block.specs.declared.tx.Block.{Block}
 use Rattle.cf_chain.specs.Coins.{CoinMap, after_block}
 use Rattle.cf_chain.specs.Filters.{Filtered, prevouts, filtered, filtered_on, first_filtered}
 use Rattle.cf_chain.specs.Good.{headers_of}
-use Rattle.cf_chain.specs.Grow.{top_hash, answered}
+use Rattle.cf_chain.specs.Grow.{top_hash, growing_answers}
 use Rattle.cf_chain.specs.Serve.{is_version as is_version_there}
 use Rattle.cf_dispute.specs.Claims.{Table}
 use Rattle.cf_headers.specs.Chain.{Chain, back_to, IsIn}
@@ -106,7 +106,7 @@ abbrev pub AreSilent : List Msg → Type 0
 AreSilent [] = Unit {0}
 AreSilent (m ∷ ms) = IsReply m × AreSilent ms
 
-silent_answer : (blocks : List Block) (m : Msg) → IsReply m → answered (pos 0) 0 blocks true m ≡ []
+silent_answer : (blocks : List Block) (m : Msg) → IsReply m → growing_answers (pos 0) 0 blocks true m ≡ []
 silent_answer blocks Verack is = refl
 silent_answer blocks (Pong number) is = refl
 silent_answer blocks m is = absurd is
@@ -143,7 +143,7 @@ pub record Awaits (blocks : List Block) (k : ℕ) (cs : Table) (j : ℕ) (r : Op
     pub late : AreSilent after
     pub busy : is_idle r ≡ false
     pub owing : (h : ℕ) → k ≤ h → h ≤ length blocks
-        → Owing (take h blocks) cs j r (answered (pos 0) 0 (take h blocks) true question)
+        → Owing (take h blocks) cs j r (growing_answers (pos 0) 0 (take h blocks) true question)
 
 abbrev pub Due : List Block → ℕ → Table → ℕ → OpenRequest → List Msg → List Msg → Type 0
 Due blocks k cs j r left asked = Began blocks k cs j r left asked ⊎ Awaits blocks k cs j r left asked
@@ -161,13 +161,13 @@ due_up blocks k cs j r [] (q ∷ asked) low (inl b) = inl (record {
 })
 due_up blocks k cs j r [] (q ∷ asked) low (inr a) = by_before a.before a.these a.early where
   by_before : (before : List Msg) → q ∷ asked ≡ before ++ a.question ∷ a.after → AreSilent before
-      → Due blocks k cs j r (answered (pos 0) 0 (take k blocks) true q) asked
+      → Due blocks k cs j r (growing_answers (pos 0) 0 (take k blocks) true q) asked
   by_before [] e early =
       let one : q ≡ a.question = cc in
       let more : asked ≡ a.after = cc in
       inl (record {
         silent = subst AreSilent (sym more) a.late;
-        owing = subst (λ (x : Msg). Owing (take k blocks) cs j r (answered (pos 0) 0 (take k blocks) true x)) (sym one)
+        owing = subst (λ (x : Msg). Owing (take k blocks) cs j r (growing_answers (pos 0) 0 (take k blocks) true x)) (sym one)
             (a.owing k (omega arith) low);
       })
   by_before (b ∷ before) e early =
@@ -273,7 +273,7 @@ stage_up blocks cs false false true j r s low st = (
   ],
 ) where
   first_answer : (chain : List Block) (v : Msg) → is_version_there v ≡ true
-      → (n : Msg) × ((answered (pos 0) 0 chain false v ≡ n ∷ Verack ∷ []) × (is_version_there n ≡ true))
+      → (n : Msg) × ((growing_answers (pos 0) 0 chain false v ≡ n ∷ Verack ∷ []) × (is_version_there n ≡ true))
   first_answer chain (Version version services time to from nonce agent height relay) is = (_, (refl, refl))
   first_answer chain v is = cc
 
@@ -287,7 +287,7 @@ stage_up blocks cs false false true j r s low st = (
         version = a.0;
         left = ap (λ (l : List Msg). left_then (take s.height blocks) s.met l s.asked) w.none
             ∙ ap (λ (qs : List Msg). left_then (take s.height blocks) s.met [] qs) w.these
-            ∙ ap (λ (b : Bool). answered (pos 0) 0 (take s.height blocks) b w.version) w.unmet ∙ a.1.0;
+            ∙ ap (λ (b : Bool). growing_answers (pos 0) 0 (take s.height blocks) b w.version) w.unmet ∙ a.1.0;
         is = a.1.1;
       }
 stage_up blocks cs false false false j r s low st = (

@@ -9,7 +9,7 @@ use Rattle.cf_wires.specs.declared.event.Event.TheVariants.{Dialled, NotDialled,
 use Rattle.cf_wires.specs.Log.{Log}
 use Rattle.cf_peer.specs.declared.mode.Mode.{Mode}
 use Rattle.cf_peer.specs.declared.mode.Mode.TheVariants.{Once, Following}
-use Rattle.cf_peer.specs.Trail.{Trail, Called, Said, Refused, Asked, Passed, Lost, trail, is_heard_out_in, still_heard, is_news, own, connected, ready}
+use Rattle.cf_peer.specs.Trail.{Trail, Called, Said, Refused, Asked, Passed, Lost, trail, is_heard_out_in, still_heard, is_news, own, is_connected, ready}
 use Rattle.cf_peer.specs.Asking.{MayAskIn, is_open, is_idle, request}
 use Rattle.cf_sync.specs.Fetching.{MaySendIn, MayTake, RightlyIn}
 
@@ -68,8 +68,8 @@ both_left : (a b : Bool) → (a && b) ≡ true → a ≡ true
 both_left true b e = refl
 both_left false b e = absurd (false≢true e)
 
-open_on : (t : Trail) → is_open t ≡ true → connected t ≡ true
-open_on t e = both_left (connected t) (not (ready t) || not (is_idle (request t))) e
+open_on : (t : Trail) → is_open t ≡ true → is_connected t ≡ true
+open_on t e = both_left (is_connected t) (not (ready t) || not (is_idle (request t))) e
 
 takes_following : (mode : Mode) (log : Log) → MayTake mode log → MayTake Following log
 takes_following Once log busy = (busy.0, open_on (trail log busy.0) busy.1)

@@ -20,7 +20,7 @@ use Rattle.cf_wires.specs.declared.event.Mark.TheVariants as mark
 use Rattle.cf_wires.specs.Log.{Log}
 use Rattle.cf_peer.specs.declared.peer.Cause.{Cause}
 use Rattle.cf_peer.specs.declared.peer.Cause.TheVariants.{BadFrame, Malformed, NoFilters, WrongCount, WrongPrevious, OtherFilter, BadBlock, Omits}
-use Rattle.cf_peer.specs.Trail.{Trail, Part, Called, Lost, asks, called_part, connected, failed, fault_in, first, has_filters, heard_part, hears, hears_fault, item_of, item_of_read, has_version, own, part_of, ready, spelled, trail, went_on, with_item}
+use Rattle.cf_peer.specs.Trail.{Trail, Part, Called, Lost, asks, called_part, is_connected, has_failed, fault_in, first, has_filters, heard_part, hears, hears_fault, item_of, item_of_read, has_version, own, part_of, ready, spelled, trail, went_on, with_item}
 use Rattle.cf_peer.specs.Asking.{OpenRequest, ClaimsOpen, FiltersOpen, BlockOpen, block_fault, claims, claims_fault, fault_of, filter_fault, hash_claimed, is_answer_of, is_committed, is_this, is_wanted, request, verdict}
 use Rattle.cf_sync.specs.Blame.{HasOmitted}
 use Rattle.cf_sync.proofs.Deaf.{heard_on}
@@ -136,35 +136,35 @@ words_unnamed (e ∷ log) p is = went_unnamed e p (part_of log p) (words_unnamed
 
 -- ---- no send to who has omitted something has failed since
 
-pub off_unfailed : (t : Trail) → connected t ≡ true → failed t ≡ false
+pub off_unfailed : (t : Trail) → is_connected t ≡ true → has_failed t ≡ false
 off_unfailed [] on = refl
 off_unfailed (Called ∷ t) on = refl
 off_unfailed (Lost w ∷ t) on = absurd (false≢true on)
 off_unfailed (i ∷ t) on = off_unfailed t on
 
-frame_failed : (f : Frame) (t : Trail) → failed (item_of f ∷ t) ≡ failed t
-frame_failed f t = elim (message_of f) as (λ r. failed (item_of_read r ∷ t) ≡ failed t) [ Ok m ↦ refl | Err e ↦ refl ]
+frame_failed : (f : Frame) (t : Trail) → has_failed (item_of f ∷ t) ≡ has_failed t
+frame_failed f t = elim (message_of f) as (λ r. has_failed (item_of_read r ∷ t) ≡ has_failed t) [ Ok m ↦ refl | Err e ↦ refl ]
 
-hears_failed : (fs : List Frame) (t : Trail) → failed (hears fs t) ≡ failed t
+hears_failed : (fs : List Frame) (t : Trail) → has_failed (hears fs t) ≡ has_failed t
 hears_failed [] t = refl
 hears_failed (f ∷ fs) t = hears_failed fs (item_of f ∷ t) ∙ frame_failed f t
 
-end_failed : (o : Option FrameFault) (t : Trail) → failed (hears_fault o t) ≡ failed t
+end_failed : (o : Option FrameFault) (t : Trail) → has_failed (hears_fault o t) ≡ has_failed t
 end_failed None t = refl
 end_failed (Some fault) t = refl
 
-asks_failed : (o : Option Msg) (t : Trail) → failed (asks o t) ≡ failed t
+asks_failed : (o : Option Msg) (t : Trail) → has_failed (asks o t) ≡ has_failed t
 asks_failed None t = refl
 asks_failed (Some m) t = refl
 
-piece_failed : (piece : List ℕ) (part : Part) → failed (heard_part piece part).trail ≡ failed part.trail
+piece_failed : (piece : List ℕ) (part : Part) → has_failed (heard_part piece part).trail ≡ has_failed part.trail
 piece_failed piece part = (let r = read_stream (part.waits ++ piece) in
     end_failed r.fault (hears r.frames part.trail) ∙ hears_failed r.frames part.trail)
 
 abbrev IsUnfailed : Part → Type 0
-IsUnfailed part = failed part.trail ≡ false
+IsUnfailed part = has_failed part.trail ≡ false
 
-pub omitted_unfailed : (log : Log) (p : ℕ) → HasOmitted log p → failed (trail log p) ≡ false
+pub omitted_unfailed : (log : Log) (p : ℕ) → HasOmitted log p → has_failed (trail log p) ≡ false
 omitted_unfailed [] p h = absurd h
 omitted_unfailed (Dialled q name ∷ log) p h =
     at_either IsUnfailed (q.0 == p) (called_part (part_of log p)) (part_of log p) (λ is. refl)
@@ -198,14 +198,14 @@ omitted_unfailed (Took Ended ∷ log) p h = omitted_unfailed log p h
 
 -- ---- who has omitted something is cut off
 
-asks_connected : (o : Option Msg) (t : Trail) → connected (asks o t) ≡ connected t
+asks_connected : (o : Option Msg) (t : Trail) → is_connected (asks o t) ≡ is_connected t
 asks_connected None t = refl
 asks_connected (Some m) t = refl
 
 abbrev IsCutOff : Part → Type 0
-IsCutOff part = connected part.trail ≡ false
+IsCutOff part = is_connected part.trail ≡ false
 
-pub omitted_cut_off : (log : Log) (p : ℕ) → HasOmitted log p → connected (trail log p) ≡ false
+pub omitted_cut_off : (log : Log) (p : ℕ) → HasOmitted log p → is_connected (trail log p) ≡ false
 omitted_cut_off [] p h = absurd h
 omitted_cut_off (Dialled q name ∷ log) p h =
     at_either IsCutOff (q.0 == p) (called_part (part_of log p)) (part_of log p)
@@ -236,5 +236,5 @@ omitted_cut_off (Took (Tick s) ∷ log) p h = omitted_cut_off log p h
 omitted_cut_off (Took Ended ∷ log) p h = omitted_cut_off log p h
 
 -- who is connected hasn't since it was dialled
-pub connected_unomitted : (log : Log) (p : ℕ) → connected (trail log p) ≡ true → HasOmitted log p → ⊥
+pub connected_unomitted : (log : Log) (p : ℕ) → is_connected (trail log p) ≡ true → HasOmitted log p → ⊥
 connected_unomitted log p on omitted = false≢true (sym (omitted_cut_off log p omitted) ∙ on)

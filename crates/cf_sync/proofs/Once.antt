@@ -18,8 +18,8 @@ use Rattle.cf_wires.specs.declared.event.Event.TheVariants.{Dialled, NotDialled,
 use Rattle.cf_wires.specs.declared.event.Mark.TheVariants as mark
 use Rattle.cf_wires.specs.Log.{Log}
 use Rattle.cf_peer.specs.declared.mode.Mode.TheVariants.{Following}
-use Rattle.cf_peer.specs.Trail.{Trail, Part, Said, Asked, Lost, called_part, with_item, item_of, item_of_read, hears, hears_fault, part_after, heard_part, spelled, asks, part_of, trail, connected, own}
-use Rattle.cf_peer.specs.Asking.{OpenRequest, NothingOpen, HeadersOpen, ClaimsOpen, FiltersOpen, BlockOpen, PingOpen, request, request_for, request_after, filter_of, claims_asked, filters_asked, is_wanted, is_committed, is_answer_of, block_entry, fault_of, verdict, counts, counted, fetched, fetched_by}
+use Rattle.cf_peer.specs.Trail.{Trail, Part, Said, Asked, Lost, called_part, with_item, item_of, item_of_read, hears, hears_fault, part_after, heard_part, spelled, asks, part_of, trail, is_connected, own}
+use Rattle.cf_peer.specs.Asking.{OpenRequest, NothingOpen, HeadersOpen, ClaimsOpen, FiltersOpen, BlockOpen, PingOpen, request, request_for, request_after, filter_of, claims_asked, filters_asked, is_wanted, is_committed, is_answer_of, block_entry, fault_of, verdict, counts, counted, fetched_blocks, fetched_by}
 use Rattle.cf_sync.specs.Fetching.{RightlyIn, IsConnected, IsFetched, IsFetchedHash, IsWanted, IsFilterOpen, IsBlockOpen, MaySendIn, filters_open, blocks_open, blocks_in}
 use Rattle.cf_sync.proofs.Entries.{at_either}
 use Rattle.cf_sync.proofs.Modes.{rightly_before_in}
@@ -162,16 +162,16 @@ filters_asked_new log p m block may i = inl i
 
 -- ---- along a log
 
-pub still_connected : (fs : List Frame) (t : Trail) → connected (hears fs t) ≡ true → connected t ≡ true
+pub still_connected : (fs : List Frame) (t : Trail) → is_connected (hears fs t) ≡ true → is_connected t ≡ true
 still_connected [] t on = on
 still_connected (f ∷ fs) t on = by (message_of f) (still_connected fs (item_of f ∷ t) on) where
-  by : (r : _) → connected (item_of_read r ∷ t) ≡ true → connected t ≡ true
+  by : (r : _) → is_connected (item_of_read r ∷ t) ≡ true → is_connected t ≡ true
   by (Ok m) on = on
   by (Err e) on = on
 
 -- a peer's part, in which a block stands in what is open
 abbrev pub StandsIn : (OpenRequest → List Hash) → Trail → Hash → Type 0
-StandsIn what t block = (connected t ≡ true) × IsIn block (what (request t))
+StandsIn what t block = (is_connected t ≡ true) × IsIn block (what (request t))
 
 -- a message was sent, which asks for something that was open to nobody
 record JustAsked (Free : Log → Hash → Type 0) (e : Event) (log : Log) (p : ℕ) (block : Hash) : Type 0 where
@@ -290,13 +290,13 @@ none_when None e = refl
 none_when (Some c) e = absurd (false≢true e)
 
 abbrev pub Brings : Trail → Trail → Block → Type 0
-Brings t u b = IsIn b (fetched (counted t)) ⊎ (StandsIn blocks_open t (block_hash_of b.header) × ((x : Hash) → IsIn x (blocks_open (request u)) → ⊥))
+Brings t u b = IsIn b (fetched_blocks (counted t)) ⊎ (StandsIn blocks_open t (block_hash_of b.header) × ((x : Hash) → IsIn x (blocks_open (request u)) → ⊥))
 
-pub said_brings : (m : Msg) (t : Trail) (b : Block) → IsIn b (fetched (counted (Said m ∷ t))) → Brings t (Said m ∷ t) b
+pub said_brings : (m : Msg) (t : Trail) (b : Block) → IsIn b (fetched_blocks (counted (Said m ∷ t))) → Brings t (Said m ∷ t) b
 said_brings m t b i = elim (cases_Bool (counts m t)) [
-  | inl is1 ↦ elim (in_either b (fetched_by m (request (counted t))) (fetched (counted t)) (subst (λ (x : Bool). IsIn b (fetched (if x then Said m ∷ counted t else counted t))) is1 i)) [
+  | inl is1 ↦ elim (in_either b (fetched_by m (request (counted t))) (fetched_blocks (counted t)) (subst (λ (x : Bool). IsIn b (fetched_blocks (if x then Said m ∷ counted t else counted t))) is1 i)) [
     | inl new ↦ (
-        let on = and_parts (connected t) (is_none (verdict (Said m ∷ t))) is1 in
+        let on = and_parts (is_connected t) (is_none (verdict (Said m ∷ t))) is1 in
         let clean : verdict (Said m ∷ t) ≡ None = none_when (verdict (Said m ∷ t)) on.1 in
         let same_part = same_use t on.0 (first_none (verdict t) (fault_of m t) clean).0 in
         let w = by_message m (request t) b (subst (λ (r : OpenRequest). IsIn b (fetched_by m r)) same_part.open_one new) in
@@ -304,19 +304,19 @@ said_brings m t b i = elim (cases_Bool (counts m t)) [
         )
     | inr old ↦ inl old
   ]
-  | inr off ↦ inl (subst (λ (x : Bool). IsIn b (fetched (if x then Said m ∷ counted t else counted t))) off i)
+  | inr off ↦ inl (subst (λ (x : Bool). IsIn b (fetched_blocks (if x then Said m ∷ counted t else counted t))) off i)
 ]
 
 in_frames : (fs : List Frame) (t : Trail) (block : Hash) → IsIn block (blocks_open (request (hears fs t))) → IsIn block (blocks_open (request t))
 in_frames = in_heard blocks_open (λ b i. i) blocks_said IsNewBlock blocks_asked
 
-pub frames_bring : (fs : List Frame) (t : Trail) (b : Block) → IsIn b (fetched (counted (hears fs t))) → Brings t (hears fs t) b
+pub frames_bring : (fs : List Frame) (t : Trail) (b : Block) → IsIn b (fetched_blocks (counted (hears fs t))) → Brings t (hears fs t) b
 frames_bring [] t b i = inl i
 frames_bring (f ∷ fs) t b i = elim (frames_bring fs (item_of f ∷ t) b i) [
   | inl old ↦ elim (item (message_of f) old) [ inl o ↦ inl o | inr w ↦ inr (w.0, λ x j. w.1 x (in_frames fs (item_of f ∷ t) x j)) ]
   | inr w ↦ inr (back (message_of f) w.0, w.1)
 ] where
-  item : (r : _) → IsIn b (fetched (counted (item_of_read r ∷ t))) → Brings t (item_of_read r ∷ t) b
+  item : (r : _) → IsIn b (fetched_blocks (counted (item_of_read r ∷ t))) → Brings t (item_of_read r ∷ t) b
   item (Ok m) j = said_brings m t b j
   item (Err e) j = inl j
 
@@ -324,9 +324,9 @@ frames_bring (f ∷ fs) t b i = elim (frames_bring fs (item_of f ∷ t) b i) [
   back (Ok m) s = (s.0, blocks_said m (request t) (block_hash_of b.header) s.1)
   back (Err e) s = s
 
-read_brings : (r : StreamRead) (t : Trail) (b : Block) → IsIn b (fetched (counted (part_after r t).trail)) → Brings t (part_after r t).trail b
+read_brings : (r : StreamRead) (t : Trail) (b : Block) → IsIn b (fetched_blocks (counted (part_after r t).trail)) → Brings t (part_after r t).trail b
 read_brings r t b i = by r.fault i where
-  by : (o : Option FrameFault) → IsIn b (fetched (counted (hears_fault o (hears r.frames t)))) → Brings t (hears_fault o (hears r.frames t)) b
+  by : (o : Option FrameFault) → IsIn b (fetched_blocks (counted (hears_fault o (hears r.frames t)))) → Brings t (hears_fault o (hears r.frames t)) b
   by None i = frames_bring r.frames t b i
   by (Some fault) i = frames_bring r.frames t b i
 
@@ -336,8 +336,8 @@ IsNewOf e log b = (k : ℕ) × (StandsIn blocks_open (trail log k) (block_hash_o
 
 pub newly : (e : Event) (log : Log) (b : Block) → IsFetched (e ∷ log) b → IsFetched log b ⊎ IsNewOf e log b
 newly (Took (Got q piece)) log b got = elim (by (q.0 == got.0) got.1) [ inl i ↦ inl (got.0, i) | inr w ↦ inr (got.0, w) ] where
-  by : (x : Bool) → IsIn b (fetched (counted (if x then heard_part piece (part_of log got.0) else part_of log got.0).trail))
-      → IsIn b (fetched (counted (trail log got.0)))
+  by : (x : Bool) → IsIn b (fetched_blocks (counted (if x then heard_part piece (part_of log got.0) else part_of log got.0).trail))
+      → IsIn b (fetched_blocks (counted (trail log got.0)))
       ⊎ (StandsIn blocks_open (trail log got.0) (block_hash_of b.header)
       × ((y : Hash) → IsIn y (blocks_open (request (if x then heard_part piece (part_of log got.0) else part_of log got.0).trail)) → ⊥))
   by true i = read_brings (read_stream ((part_of log got.0).waits ++ piece)) (trail log got.0) b i

@@ -10,7 +10,7 @@ use Rattle.cf_bytes.specs.Hash.{hash_of}
 use Rattle.cf_bytes.specs.declared.hash.Hash32.{Hash32}
 use Rattle.cf_block.specs.declared.tx.Block.{Block}
 use Rattle.cf_block.specs.Header.{block_hash_of, header_spelling, genesis_header}
-use Rattle.cf_chain.specs.Grow.{answered}
+use Rattle.cf_chain.specs.Grow.{growing_answers}
 use Rattle.cf_chain.specs.Heights.{block_height}
 use Rattle.cf_chain.specs.Serve.{version_reply, fork_height, most_headers}
 use Rattle.cf_chain.proofs.Answering.{nothing_above}
@@ -27,8 +27,8 @@ use Rattle.cf_wires.specs.declared.event.Event.TheVariants.{Dialled, Sent, Took}
 use Rattle.cf_peer.specs.declared.mode.Mode.TheVariants.{Following}
 use Rattle.cf_peer.specs.Acts.{bytes_of, IsSendable}
 use Rattle.cf_wires.specs.Log.{Log}
-use Rattle.cf_peer.specs.Trail.{Trail, Part, Called, Said, Asked, Passed, called_part, with_item, heard_part, spelled, asks, part_of, trail, connected, own, is_heard_out_in, first}
-use Rattle.cf_peer.specs.Asking.{NothingOpen, ClaimsOpen, FiltersOpen, is_idle, is_spare, is_open, age, request, request_after, claims, claims_after, claims_asked, filters_asked, claims_fault, filter_fault, fault_of, verdict, counted, given, given_by, filter_of, HasSaid, IsFree, block_entry, MayAskIn}
+use Rattle.cf_peer.specs.Trail.{Trail, Part, Called, Said, Asked, Passed, called_part, with_item, heard_part, spelled, asks, part_of, trail, is_connected, own, is_heard_out_in, first}
+use Rattle.cf_peer.specs.Asking.{NothingOpen, ClaimsOpen, FiltersOpen, is_idle, is_spare, is_open, age, request, request_after, claims, claims_after, claims_asked, filters_asked, claims_fault, filter_fault, fault_of, verdict, counted, given_filters, given_by, filter_of, HasSaid, IsFree, block_entry, MayAskIn}
 use Rattle.cf_scan.specs.HistoryText.{history_text}
 use Rattle.cf_scan.specs.Watching.{IsWatch}
 use Rattle.cf_sync.specs.Example.{only_header, only_hash, chain_of_one, honest_peer, our_version, its_version, question, its_headers, false_headers, ask_claims, its_claims, ask_filter, its_filter, genesis_hash, no_stop, only_filter, only_filter_hash, genesis_filter_header, other_watch, log_1, log_2}
@@ -231,7 +231,7 @@ one_17 = (refl, (refl, (refl, (refl, (refl, (refl, (refl, (refl, (refl, one_7)))
 abbrev turn : ℕ → Bool → List Msg → List Msg → Turn
 turn height met left asked = record { height = height; met = met; left = left; asked = asked }
 
-none_answer : answered (pos 0) 0 [] true question ≡ false_headers ∷ []
+none_answer : growing_answers (pos 0) 0 [] true question ≡ false_headers ∷ []
 none_answer =
     let fork = fork_height (genesis_hash ∷ []) [] in
     ap (λ hs. Headers hs ∷ []) (nothing_above (most_headers fork (block_height no_stop [])) fork)
@@ -509,11 +509,11 @@ request_17 : request v_17 ≡ NothingOpen
 request_17 = ap (λ r. request_after its_filter r) request_16 ∙ rw self_hash refl
 
 -- a delivery may be taken, since it is connected
-there : (log : Log) (t : Trail) → part_of log 1 ≡ at_rest t → connected t ≡ true → MayTake Following log
-there log t is on = (1, of_part (λ u. connected u ≡ true) (part_of log 1) t is on)
+there : (log : Log) (t : Trail) → part_of log 1 ≡ at_rest t → is_connected t ≡ true → MayTake Following log
+there log t is on = (1, of_part (λ u. is_connected u ≡ true) (part_of log 1) t is on)
 
 abbrev IsSpare : Trail → Type 0
-IsSpare t = connected t ≡ true → is_spare (request t) ≡ true
+IsSpare t = is_connected t ≡ true → is_spare (request t) ≡ true
 
 none_open_15 : IsNoneFetching grow_15
 none_open_15 q = at_one IsSpare grow_15 v_15 q p_15 one_17.1.1 (λ on. ap (λ r. is_spare r) request_15) (λ on. refl)
@@ -653,10 +653,10 @@ pub first_is_quiet : IsQuiet first_quiet
 first_is_quiet p = at_one (λ t. is_open t ≡ false) first_quiet v_7 p p_7 one_7 refl refl
 
 -- nobody else is connected
-alone_there : (log : Log) (q : ℕ) → IsOfOne log → connected (ticks log) ≡ false → q ≢ 1 → IsConnected log q → ⊥
+alone_there : (log : Log) (q : ℕ) → IsOfOne log → is_connected (ticks log) ≡ false → q ≢ 1 → IsConnected log q → ⊥
 alone_there log q all off other on = elim (cases_Bool (1 == q)) [
   | inl is ↦ other (sym (eqb-true 1 q is))
-  | inr not_it ↦ false≢true (sym (ap (λ (part : Part). connected part.trail) (none_passes log q not_it all) ∙ off) ∙ on)
+  | inr not_it ↦ false≢true (sym (ap (λ (part : Part). is_connected part.trail) (none_passes log q not_it all) ∙ off) ∙ on)
 ]
 
 pub others_show_none : OthersShowNone growing_run 1 chain_of_one
@@ -716,7 +716,7 @@ first_asked = record {
     scanned = record { blocks = []; taken = tt; history = refl };
   };
   asked_out = λ p on idle. record {
-    heard_out = at_one (λ t. connected t ≡ true → is_heard_out_in Following (counted t) ≡ true) first_quiet v_7 p p_7 one_7
+    heard_out = at_one (λ t. is_connected t ≡ true → is_heard_out_in Following (counted t) ≡ true) first_quiet v_7 p p_7 one_7
         (λ is1. heard_7) (λ is1. absurd (false≢true is1)) on;
     claimed = λ h one le. absurd (apart_7 p h one le);
     settled = λ h one le above no_filter no_block. absurd (apart_7 p h one le);
@@ -736,15 +736,15 @@ chain_17 = (same_use v_17 refl clean_17).chain ∙ own_7
 claimed_17 : claims (counted v_17) only_hash.0 ≡ Some only_claim
 claimed_17 = ap (λ (c : Table). c only_hash.0) (same_use v_17 refl clean_17).claiming ∙ claim_found
 
-given_17 : IsIn (filter_of only_hash only_filter) (given (counted v_17))
+given_17 : IsIn (filter_of only_hash only_filter) (given_filters (counted v_17))
 given_17 =
     let open_16 : request (counted v_16) ≡ FiltersOpen (only_hash.0 ∷ []) [] = (same_use v_16 refl clean_15).open_one
     ∙ request_16 in
     let one : counted v_17 ≡ Said its_filter ∷ counted v_16 = said_counts its_filter v_16 refl clean_17 in
     let by : given_by its_filter (request (counted v_16)) ≡ filter_of only_hash only_filter ∷ [] =
     ap (λ r. given_by its_filter r) open_16 ∙ rw self_hash refl in
-    subst (λ (t : Trail). IsIn (filter_of only_hash only_filter) (given t)) (sym one)
-    (subst (λ js. IsIn (filter_of only_hash only_filter) (js ++ given (counted v_16))) (sym by) (inl refl))
+    subst (λ (t : Trail). IsIn (filter_of only_hash only_filter) (given_filters t)) (sym one)
+    (subst (λ js. IsIn (filter_of only_hash only_filter) (js ++ given_filters (counted v_16))) (sym by) (inl refl))
 
 no_block : (b : Block) → HasSaid v_17 (BlockMessage b) → ⊥
 no_block b (inl e) = cc
@@ -798,7 +798,7 @@ still_put log t texts is busy = record {
 
 -- at rest a text is put that is not the last one
 text_put : (log : Log) (t : Trail) (height : ℕ) (hash : Hash32) (before now : List (List ℕ))
-    → part_of log 1 ≡ at_rest t → connected t ≡ true → IsQuiet log
+    → part_of log 1 ≡ at_rest t → is_connected t ≡ true → IsQuiet log
     → HasAskedIn Following other_watch height hash [] log → now ≡ put (history_text [] height hash.0) before
     → PutsAt other_watch log before now
 text_put log t height hash before now is on quiet asked new = record {
@@ -806,7 +806,7 @@ text_put log t height hash before now is on quiet asked new = record {
   elsewhere = λ never. absurd (never (record {
     quiet = quiet;
     who = 1;
-    there = of_part (λ u. connected u ≡ true) (part_of log 1) t is on;
+    there = of_part (λ u. is_connected u ≡ true) (part_of log 1) t is on;
   }));
 }
 

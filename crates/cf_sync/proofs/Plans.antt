@@ -7,7 +7,7 @@ use Rattle.cf_match.specs.declared.job.Job.{Job}
 use Rattle.cf_wires.specs.declared.event.Event.{Event}
 use Rattle.cf_peer.specs.Asking.{counted, claims, hash_claimed}
 use Rattle.cf_wires.specs.Log.{Log}
-use Rattle.cf_peer.specs.Trail.{Part, trail, part_of, connected}
+use Rattle.cf_peer.specs.Trail.{Part, trail, part_of, is_connected}
 use Rattle.cf_sync.specs.Fetching.{IsNoPiece, IsSameFetched, IsTest, IsTested, IsOmitting}
 use Rattle.cf_sync.specs.Planned.{Alike}
 use Rattle.cf_sync.proofs.Answered.{only_pieces_answer}
@@ -20,7 +20,7 @@ only_pieces_test = only_pieces_answer IsTest
 pub omits_alike : (planned log : Log) (p : ℕ) → Alike (part_of planned p) (part_of log p) → IsSameFetched planned log → ((job : Job) → IsTested planned job → IsTested log job)
     → IsOmitting planned p → IsOmitting log p
 omits_alike planned log p (inl same) fetched tests o = record {
-  there = subst (λ (x : Part). connected x.trail ≡ true) same o.there;
+  there = subst (λ (x : Part). is_connected x.trail ≡ true) same o.there;
   block = o.block;
   hash = o.hash;
   claimed = subst (λ (x : Part). hash_claimed (claims (counted x.trail)) o.block ≡ Some o.hash) same o.claimed;
@@ -32,8 +32,8 @@ omits_alike planned log p (inl same) fetched tests o = record {
     lacking = o.omits.lacking;
   };
 }
-omits_alike planned log p (inr off) fetched tests o = absurd (both_ways (connected (trail planned p)) off.0 o.there)
+omits_alike planned log p (inr off) fetched tests o = absurd (both_ways (is_connected (trail planned p)) off.0 o.there)
 
 -- who is cut off omits nothing
-pub off_omits_nothing : (log : Log) (p : ℕ) → connected (trail log p) ≡ false → IsOmitting log p → ⊥
-off_omits_nothing log p off o = both_ways (connected (trail log p)) off o.there
+pub off_omits_nothing : (log : Log) (p : ℕ) → is_connected (trail log p) ≡ false → IsOmitting log p → ⊥
+off_omits_nothing log p off o = both_ways (is_connected (trail log p)) off o.there

@@ -13,7 +13,7 @@ use Rattle.cf_headers.proofs.Longest.{same_chain}
 use Rattle.cf_headers.proofs.Stacks.{length_lower}
 use Rattle.cf_peer.specs.Asking.{lists, hashes_of}
 use Rattle.cf_wires.specs.Log.{Log}
-use Rattle.cf_peer.specs.Trail.{trail, connected, own}
+use Rattle.cf_peer.specs.Trail.{trail, is_connected, own}
 use Rattle.cf_sync.specs.Blame.{AreBlamed}
 use Rattle.cf_sync.specs.Fetching.{counted_part, IsAbove, IsConnected, AreBytes, IsFetchedHash, IsDisputed, HasClaimed, IsTestedWith, IsOmitting, IsBest, IsTestedThrough}
 use Rattle.cf_sync.specs.Sync.{IsHashed}
@@ -97,7 +97,7 @@ pub are_blamed : (log : Log) (chain : Chain) → AreBytes log → NoHashClash (I
 are_blamed log chain bytes clash best through none = record {
   tested = λ block in_best fetched disputed p on in_own hash claimed. elim best.shown [
     | inl q ↦ tested_one log chain bytes clash block p q.0 q.1.1 in_best in_own fetched disputed hash claimed (through p on)
-    | inr nobody ↦ absurd (both_ways (connected (trail log p)) (nobody.0 p) on)
+    | inr nobody ↦ absurd (both_ways (is_connected (trail log p)) (nobody.0 p) on)
   ];
   clean = λ block in_best p on hash claimed t omits. none p (record { there = on; block = block; hash = hash; claimed = claimed; tested = t; omits = omits });
 } where

@@ -11,20 +11,20 @@ use Rattle.cf_wires.specs.declared.event.Event.TheVariants.{Dialled, NotDialled,
 use Rattle.cf_wires.specs.declared.event.Mark.TheVariants as mark
 use Rattle.cf_wires.specs.Log.{Log}
 use Rattle.cf_peer.specs.Trail.{Trail, Part, Lost, called_part, with_item, heard_part, spelled, asks, part_of, trail}
-use Rattle.cf_peer.specs.Asking.{counted, fetched}
+use Rattle.cf_peer.specs.Asking.{counted, fetched_blocks}
 use Rattle.cf_sync.specs.Fetching.{IsFetched, IsFetchedHash, IsSameFetched, IsNoPiece, IsWanted}
 use Rattle.cf_sync.proofs.Entries.{at_either}
 
 -- ---- what brings nothing to a peer's part
 
-pub sent_brings_none : (o : Option Msg) (t : Trail) → fetched (counted (asks o t)) ≡ fetched (counted t)
+pub sent_brings_none : (o : Option Msg) (t : Trail) → fetched_blocks (counted (asks o t)) ≡ fetched_blocks (counted t)
 sent_brings_none None t = refl
 sent_brings_none (Some m) t = refl
 
 -- ---- and what entry brings nothing
 
 abbrev HasSame : Trail → Part → Type 0
-HasSame t part = fetched (counted part.trail) ≡ fetched (counted t)
+HasSame t part = fetched_blocks (counted part.trail) ≡ fetched_blocks (counted t)
 
 pub no_piece_brings : (e : Event) (log : Log) → IsNoPiece e → IsSameFetched (e ∷ log) log
 no_piece_brings (Dialled q name) log is p = at_either (HasSame (trail log p)) (q.0 == p) (called_part (part_of log p)) (part_of log p) (λ is. refl) (λ off. refl)

@@ -13,7 +13,7 @@ use Rattle.cf_block.specs.Commitment.{spelled_txs, is_coinbase_tx}
 use Rattle.cf_block.specs.Output.{Output}
 use Rattle.cf_block.specs.declared.tx.TxIn.{TxIn}
 use Rattle.cf_bytes.specs.declared.hash.Hash32.{Hash32}
-use Rattle.cf_chain.specs.Coins.{spent}
+use Rattle.cf_chain.specs.Coins.{spent_outputs}
 use Rattle.cf_chain.specs.Filters.{Filtered, prevouts, first_filtered}
 use Rattle.cf_chain.specs.Good.{IsGoodTx, IsGoodChain}
 use Rattle.cf_dispute.specs.declared.claim.Claim.{Claim}
@@ -34,9 +34,9 @@ use Rattle.cf_wires.specs.declared.event.Event.TheVariants.{Dialled, Sent, Took,
 use Rattle.cf_wires.specs.declared.event.Mark.TheVariants as mark
 use Rattle.cf_peer.specs.declared.mode.Mode.TheVariants.{Once}
 use Rattle.cf_peer.specs.Acts.{bytes_of}
-use Rattle.cf_peer.specs.Asking.{OpenRequest, is_spare, NothingOpen, ClaimsOpen, FiltersOpen, claims_asked, filters_asked, filter_of, claims, claims_after, claims_fault, filter_fault, fault_of, request_after, is_idle, given, given_by, HasHeader, IsFree, IsRange, request, is_committed, is_open, verdict, counted, lists, fetched, HasSaid, MayAsk, SameUse}
+use Rattle.cf_peer.specs.Asking.{OpenRequest, is_spare, NothingOpen, ClaimsOpen, FiltersOpen, claims_asked, filters_asked, filter_of, claims, claims_after, claims_fault, filter_fault, fault_of, request_after, is_idle, given_filters, given_by, HasHeader, IsFree, IsRange, request, is_committed, is_open, verdict, counted, lists, fetched_blocks, HasSaid, MayAsk, SameUse}
 use Rattle.cf_wires.specs.Log.{Log}
-use Rattle.cf_peer.specs.Trail.{Trail, Part, Called, Said, Asked, called_part, heard_part, spelled, asks, part_of, trail, connected, ready, own, is_heard_out, longer_of, ends_by, fault_in, first, Lost, with_item, is_heard_out_in}
+use Rattle.cf_peer.specs.Trail.{Trail, Part, Called, Said, Asked, called_part, heard_part, spelled, asks, part_of, trail, is_connected, ready, own, is_heard_out, longer_of, ends_by, fault_in, first, Lost, with_item, is_heard_out_in}
 use Rattle.cf_sync.specs.Example.{only_tx, only_header, only_block, only_hash, chain_of_one, honest_peer, liar, genesis_hash, no_stop, our_version, its_version, false_version, question, its_headers, false_headers, its_block, log_1, log_2, log_3, log_4, log_5, log_6, log_7, log_8, log_9, log_10, log_11, log_12, log_13, log_14, log_15, log_16, log_17, log_18, run_of_two, cleared_run, only_filter, only_filter_hash, genesis_filter_header, ask_claims, its_claims, ask_filter, its_filter}
 use Rattle.cf_sync.specs.Fetching.{IsQuiet, IsBusy, AreBytes, IsFetched, IsConnected, Rightly, counted_part, IsBest, IsDisputed, IsFetchedHash, IsScanOver, IsSettled, RightlyIn}
 use Rattle.cf_sync.proofs.Alone.{IsNoneFetching, none_filters}
@@ -347,7 +347,7 @@ says_7 m bytes (inr (inr (inl e))) i = absurd (subst (λ (x : Msg). IsIn bytes (
 says_7 m bytes (inr (inr (inr none))) i = absurd none
 
 none_spent : prevouts empty only_block ≡ []
-none_spent = ap (λ (b : Bool). map (λ (o : Output). o.script) (spent empty (if b then [] else map (λ (i : TxIn). i.prev) only_tx.inputs) ++ [])) makes_coins
+none_spent = ap (λ (b : Bool). map (λ (o : Output). o.script) (spent_outputs empty (if b then [] else map (λ (i : TxIn). i.prev) only_tx.inputs) ++ [])) makes_coins
 
 -- its filter
 filter_is : (get_or (filters_above chain_of_one) 0 first_filtered).filter ≡ only_filter
@@ -632,7 +632,7 @@ request_11 = ap (λ r. request_after its_filter r) request_10 ∙ rw self_hash r
 
 -- before the block came none was fetched
 abbrev pub HasNone : Trail → Type 0
-HasNone t = (b : Block) → IsIn b (fetched (counted t)) → ⊥
+HasNone t = (b : Block) → IsIn b (fetched_blocks (counted t)) → ⊥
 
 pub unsaid : (t : Trail) → ((b : Block) → HasSaid t (BlockMessage b) → ⊥) → HasNone t
 unsaid t none b i = none b (counted_said t (BlockMessage b) (fetched_said (counted t) b i).0)
@@ -656,7 +656,7 @@ none_fetched b got = at_each HasNone log_18 t_11 u_7 got.0 part_18 other_20 all_
 
 -- nor were filters or a block open to anybody
 abbrev pub IsSpare : Trail → Type 0
-IsSpare t = connected t ≡ true → is_spare (request t) ≡ true
+IsSpare t = is_connected t ≡ true → is_spare (request t) ≡ true
 
 none_open_16 : IsNoneFetching log_16
 none_open_16 q = at_each IsSpare log_16 t_9 u_7 q part_16 other_20 all_of_two.1.1.1.1 (λ on. ap (λ r. is_spare r) request_9) (λ on. refl) (λ on. refl)
@@ -700,7 +700,7 @@ right_14 = (
   ),
 )
 
-pub open_where : (t : Trail) (r : OpenRequest) → connected t ≡ true → request t ≡ r → is_idle r ≡ false → is_open t ≡ true
+pub open_where : (t : Trail) (r : OpenRequest) → is_connected t ≡ true → request t ≡ r → is_idle r ≡ false → is_open t ≡ true
 open_where t r on e busy = rw (on, e, busy) (or_true (not (ready t))) where
   or_true : (b : Bool) → (b || true) ≡ true
   or_true true = refl
@@ -737,7 +737,7 @@ pub record Counts (t : Trail) : Type 0 where
   pub showing : lists (counted t) ≡ (only_header ∷ []) ∷ []
   pub claimed : claims (counted t) only_hash.0 ≡ Some only_claim
 
-pub counts_of : (t : Trail) → connected t ≡ true → verdict t ≡ None → own t ≡ own t_7 → is_heard_out t ≡ true → lists t ≡ (only_header ∷ []) ∷ [] → claims t ≡ claims t_9 → Counts t
+pub counts_of : (t : Trail) → is_connected t ≡ true → verdict t ≡ None → own t ≡ own t_7 → is_heard_out t ≡ true → lists t ≡ (only_header ∷ []) ∷ [] → claims t ≡ claims t_9 → Counts t
 counts_of t on clean chain whole shown claimed = let u = same_use t on clean in record {
   same = u;
   chain = u.chain ∙ chain ∙ own_7;
@@ -749,12 +749,12 @@ counts_of t on clean chain whole shown claimed = let u = same_use t on clean in 
 pub counts_11 : Counts t_11
 counts_11 = counts_of t_11 refl clean_11 refl heard_out_11 refl refl
 
-pub given_11 : IsIn (filter_of only_hash only_filter) (given (counted t_11))
+pub given_11 : IsIn (filter_of only_hash only_filter) (given_filters (counted t_11))
 given_11 =
     let open_10 : request (counted t_10) ≡ FiltersOpen (only_hash.0 ∷ []) [] = (same_use t_10 refl clean_9).open_one ∙ request_10 in
     let one : counted t_11 ≡ Said its_filter ∷ counted t_10 = said_counts its_filter t_10 refl clean_11 in
     let by : given_by its_filter (request (counted t_10)) ≡ filter_of only_hash only_filter ∷ [] = ap (λ r. given_by its_filter r) open_10 ∙ rw self_hash refl in
-    subst (λ (t : Trail). IsIn (filter_of only_hash only_filter) (given t)) (sym one) (subst (λ (js : List Job). IsIn (filter_of only_hash only_filter) (js ++ given (counted t_10))) (sym by) (inl refl))
+    subst (λ (t : Trail). IsIn (filter_of only_hash only_filter) (given_filters t)) (sym one) (subst (λ (js : List Job). IsIn (filter_of only_hash only_filter) (js ++ given_filters (counted t_10))) (sym by) (inl refl))
 
 pub same_other : SameUse u_7
 same_other = same_use u_7 refl refl
@@ -775,7 +775,7 @@ one_chain (x ∷ y ∷ below) valid all long =
     absurd (omega (arith, f))
 
 abbrev pub ShowsOnly : Chain → Trail → Type 0
-ShowsOnly other t = connected t ≡ true → Shows (lists (counted t)) other → 1 ≤ length other → other ≡ only_header ∷ []
+ShowsOnly other t = is_connected t ≡ true → Shows (lists (counted t)) other → 1 ≤ length other → other ≡ only_header ∷ []
 
 none_shown : (other : Chain) (ls : List (List Header)) → ((h : Header) → IsShown ls h → ⊥) → Shows ls other → 1 ≤ length other → other ≡ only_header ∷ []
 none_shown [] ls none shows long = absurd (omega (arith, long))
@@ -856,19 +856,19 @@ pub other_long : length (own (counted u_7)) ≤ 1
 other_long = let e = ap (λ (c : Chain). length c) same_other.chain in omega (arith, e)
 
 -- nobody has a number below the honest peer's
-pub nobody_below : (log : Log) (q : ℕ) → connected (trail log 0) ≡ false → q < 1 → IsConnected log q → ⊥
-nobody_below log q off below on = let none : q ≡ 0 = omega (arith, below) in false≢true (sym off ∙ subst (λ (k : ℕ). connected (trail log k) ≡ true) none on)
+pub nobody_below : (log : Log) (q : ℕ) → is_connected (trail log 0) ≡ false → q < 1 → IsConnected log q → ⊥
+nobody_below log q off below on = let none : q ≡ 0 = omega (arith, below) in false≢true (sym off ∙ subst (λ (k : ℕ). is_connected (trail log k) ≡ true) none on)
 
 -- the first peer's chain is the best, where nobody's is longer
-pub best_is_its : (log : Log) (t : Trail) (chain : Chain) → part_of log 1 ≡ at_rest t → connected t ≡ true
-    → own (counted t) ≡ chain → connected (trail log 0) ≡ false
+pub best_is_its : (log : Log) (t : Trail) (chain : Chain) → part_of log 1 ≡ at_rest t → is_connected t ≡ true
+    → own (counted t) ≡ chain → is_connected (trail log 0) ≡ false
     → ((p : ℕ) → IsConnected log p → length (own (counted_part log p)) ≤ length chain) → IsBest log chain
 best_is_its log t chain here on is off longest = record {
   longest = longest;
   shown = inl (
     1,
     (
-      of_part (λ u. connected u ≡ true) (part_of log 1) t here on,
+      of_part (λ u. is_connected u ≡ true) (part_of log 1) t here on,
       of_part (λ u. own (counted u) ≡ chain) (part_of log 1) t here is,
       λ q below on. absurd (nobody_below log q off below on),
     ),
@@ -883,7 +883,7 @@ pub record IsHeard (mode : Mode) (t : Trail) : Type 0 where
   pub shares : SharesIt t
 
 abbrev pub WasHeard : Mode → Trail → Type 0
-WasHeard mode t = connected t ≡ true → IsHeard mode t
+WasHeard mode t = is_connected t ≡ true → IsHeard mode t
 
 pub heard_it : (mode : Mode) (t : Trail) → own (counted t) ≡ only_header ∷ [] → claims (counted t) only_hash.0 ≡ Some only_claim
     → is_heard_out_in mode (counted t) ≡ true → WasHeard mode t
@@ -897,12 +897,12 @@ heard_it mode t chain claimed whole on = record {
 pub other_heard : WasHeard Once u_7
 other_heard on = record { short = other_long; heard_out = same_other.hearing Once; claims_all = other_claims; shares = other_shares }
 
-pub off_heard : (mode : Mode) (t : Trail) → connected t ≡ false → WasHeard mode t
+pub off_heard : (mode : Mode) (t : Trail) → is_connected t ≡ false → WasHeard mode t
 off_heard mode t off on = absurd (false≢true (sym off ∙ on))
 
 -- so all was asked that may be, where the block is settled and the peers agree on what was fetched
 pub asked_all : (mode : Mode) (watch : List (List ℕ)) (entries : List Entry) (log : Log) (t : Trail) → part_of log 1 ≡ at_rest t
-    → connected t ≡ true → own (counted t) ≡ only_header ∷ [] → connected (trail log 0) ≡ false → IsWatch watch → AreBytes log
+    → is_connected t ≡ true → own (counted t) ≡ only_header ∷ [] → is_connected (trail log 0) ≡ false → IsWatch watch → AreBytes log
     → RightlyIn mode log → IsScanOver watch log (only_header ∷ []) entries → ((p : ℕ) → WasHeard mode (trail log p))
     → IsSettled watch log only_hash.0 → ((block : Hash) → IsFetchedHash log block → IsDisputed log block → ⊥)
     → HasAskedIn mode watch 1 only_hash entries log

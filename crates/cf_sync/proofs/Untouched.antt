@@ -15,7 +15,7 @@ use Rattle.cf_block.specs.Output.{Output}
 use Rattle.cf_block.specs.Outpoint.{outpoint_cmp, outpoint, spends_of}
 use Rattle.cf_block.specs.Tx.{IsBlock, txid_of}
 use Rattle.cf_block.specs.Header.{block_hash_of}
-use Rattle.cf_chain.specs.Coins.{CoinMap, without, with_outputs, spent, spent_by, after_block, after_tx as good_after}
+use Rattle.cf_chain.specs.Coins.{CoinMap, without, with_outputs, spent_outputs, spent_by, after_block, after_tx as good_after}
 use Rattle.cf_chain.specs.Good.{NoneStands, IsGoodTx, AreGoodTxs}
 use Rattle.cf_chain.specs.Filters.{prevouts}
 use Rattle.cf_chain.proofs.Bounds.{block_few}
@@ -119,19 +119,19 @@ in_map f x [] i = absurd i
 in_map f x (y ∷ xs) (inl e) = inl (ap f e)
 in_map f x (y ∷ xs) (inr i) = inr (in_map f x xs i)
 
-spent_first : (coins : CoinMap) (q : OutPoint) (ps : List OutPoint) (p : OutPoint) (o : Output) → p ≡ q → get coins p ≡ Some o → IsIn o (spent coins (q ∷ ps))
+spent_first : (coins : CoinMap) (q : OutPoint) (ps : List OutPoint) (p : OutPoint) (o : Output) → p ≡ q → get coins p ≡ Some o → IsIn o (spent_outputs coins (q ∷ ps))
 spent_first coins q ps p o is e =
-    in_left o (option_to_list (get coins q)) (spent (remove coins q) ps)
+    in_left o (option_to_list (get coins q)) (spent_outputs (remove coins q) ps)
     (subst (λ (x : Option Output). IsIn o (option_to_list x)) (sym (ap (λ (k : OutPoint). get coins k) (sym is) ∙ e)) (inl refl))
 
 -- a coin that is named is spent
-spent_has : (coins : CoinMap) (ps : List OutPoint) (p : OutPoint) (o : Output) → IsIn p ps → get coins p ≡ Some o → IsIn o (spent coins ps)
+spent_has : (coins : CoinMap) (ps : List OutPoint) (p : OutPoint) (o : Output) → IsIn p ps → get coins p ≡ Some o → IsIn o (spent_outputs coins ps)
 spent_has coins [] p o i e = absurd i
 spent_has coins (q ∷ ps) p o (inl is) e = spent_first coins q ps p o is e
 spent_has coins (q ∷ ps) p o (inr i) e = by_name (eq_by_cmp outpoint_cmp p q) refl (λ f. spent_has (remove coins q) ps p o i f) where
-  by_name : (b : Bool) → eq_by_cmp outpoint_cmp p q ≡ b → (get (remove coins q) p ≡ Some o → IsIn o (spent (remove coins q) ps)) → IsIn o (option_to_list (get coins q) ++ spent (remove coins q) ps)
+  by_name : (b : Bool) → eq_by_cmp outpoint_cmp p q ≡ b → (get (remove coins q) p ≡ Some o → IsIn o (spent_outputs (remove coins q) ps)) → IsIn o (option_to_list (get coins q) ++ spent_outputs (remove coins q) ps)
   by_name true at later = spent_first coins q ps p o (same_name p q at) e
-  by_name false at later = in_right o (option_to_list (get coins q)) (spent (remove coins q) ps)
+  by_name false at later = in_right o (option_to_list (get coins q)) (spent_outputs (remove coins q) ps)
       (later (get-remove outpoint_total coins q p ∙ ap (λ (b : Bool). cond b None (get coins p)) at ∙ e))
 
 off_where : (b : Bool) → (b ≡ true → ⊥) → b ≡ false
@@ -159,14 +159,14 @@ untouched_txs watch height s coins (t ∷ ts) h good paid names =
       pays = unpaid watch t.outputs (λ x i is. paid x (in_left x (paid_scripts t) (flat_map paid_scripts ts) i) is);
       spends = unspent s.coins (spends_of t) (λ p v i e.
           let o = h p v e in
-          names o.0.script (in_map scripts o.0 (spent coins (spends_of t) ++ spent_by (good_after coins t) ts)
-          (in_left o.0 (spent coins (spends_of t)) (spent_by (good_after coins t) ts) (spent_has coins (spends_of t) p o.0 i o.1))) o.2);
+          names o.0.script (in_map scripts o.0 (spent_outputs coins (spends_of t) ++ spent_by (good_after coins t) ts)
+          (in_left o.0 (spent_outputs coins (spends_of t)) (spent_by (good_after coins t) ts) (spent_has coins (spends_of t) p o.0 i o.1))) o.2);
     } in
     let still : AreCoins watch s.coins (good_after coins t) = subst (λ (x : Scanned). AreCoins watch x.coins (good_after coins t)) (idle_tx watch height s t idle) (coins_of_tx watch height s coins t good.0 h) in (
       idle,
       untouched_txs watch height s (good_after coins t) ts still good.1
           (λ x i is. paid x (in_right x (paid_scripts t) (flat_map paid_scripts ts) i) is)
-          (λ x i is. names x (mapped x (spent coins (spends_of t)) (spent_by (good_after coins t) ts) i) is),
+          (λ x i is. names x (mapped x (spent_outputs coins (spends_of t)) (spent_by (good_after coins t) ts) i) is),
     ) where
       mapped : (x : List ℕ) (xs ys : List Output) → IsIn x (map (λ (o : Output). o.script) ys) → IsIn x (map (λ (o : Output). o.script) (xs ++ ys))
       mapped x [] ys i = i

@@ -22,11 +22,11 @@ use Rattle.cf_peer.specs.declared.mode.Mode.TheVariants.{Once, Following}
 use Rattle.cf_peer.specs.declared.peer.Cause.{Cause}
 use Rattle.cf_peer.specs.declared.peer.Cause.TheVariants.{Omits}
 use Rattle.cf_wires.specs.Log.{Log}
-use Rattle.cf_peer.specs.Trail.{Trail, trail, spelled, connected, own, is_heard_out_in}
+use Rattle.cf_peer.specs.Trail.{Trail, trail, spelled, is_connected, own, is_heard_out_in}
 use Rattle.cf_scan.specs.declared.history.Entry.{Entry}
 use Rattle.cf_scan.specs.Scan.{scan_of}
 use Rattle.cf_filter.specs.Lacking.{output_items_of, lacks}
-use Rattle.cf_peer.specs.Asking.{OpenRequest, NothingOpen, HeadersOpen, ClaimsOpen, FiltersOpen, BlockOpen, PingOpen, request, is_open, counted, claims, hash_claimed, HasHeader, fetched, given, blocks_from, Deserves, MayAskIn}
+use Rattle.cf_peer.specs.Asking.{OpenRequest, NothingOpen, HeadersOpen, ClaimsOpen, FiltersOpen, BlockOpen, PingOpen, request, is_open, counted, claims, hash_claimed, HasHeader, fetched_blocks, given_filters, blocks_from, Deserves, MayAskIn}
 
 -- ---- peers
 
@@ -37,7 +37,7 @@ counted_part log p = counted (trail log p)
 
 -- the peer with this number is connected
 abbrev pub IsConnected : Log → ℕ → Type 0
-IsConnected log p = connected (trail log p) ≡ true
+IsConnected log p = is_connected (trail log p) ≡ true
 
 -- no request is open to anybody
 abbrev pub IsQuiet : Log → Type 0
@@ -59,7 +59,7 @@ AreBytes (_ ∷ log) = AreBytes log
 
 -- a committed block with this hash ended an open `getdata` of some peer, before the first frame by which that peer deserved a cause
 abbrev pub IsFetched : Log → Block → Type 0
-IsFetched log block = (p : ℕ) × IsIn block (fetched (counted_part log p))
+IsFetched log block = (p : ℕ) × IsIn block (fetched_blocks (counted_part log p))
 
 -- a block with this hash was fetched
 abbrev pub IsFetchedHash : Log → Hash → Type 0
@@ -109,7 +109,7 @@ IsNoTest log p block = IsTest log p block → ⊥
 -- by the newest entry an answer of p about filters became whole, and this filter is one of those that it brought
 pub record IsNew (e : Event) (log : Log) (p : ℕ) (job : Job) : Type 0 where
   pub news : List Job
-  pub joined : given (counted_part (e ∷ log) p) ≡ news ++ given (counted_part log p)
+  pub joined : given_filters (counted_part (e ∷ log) p) ≡ news ++ given_filters (counted_part log p)
   pub among : IsIn job news
 
 -- a filter came in a whole answer, by what counts, and way was true of that peer and that block right before the last piece of it:
@@ -150,7 +150,7 @@ IsCleared watch log block = IsJudged watch log block true
 
 -- the block is among what the peer had brought that said this piece
 abbrev pub IsBroughtBy : Event → Log → Block → Type 0
-IsBroughtBy (Took (Got q piece)) log b = IsIn b (fetched (counted_part (Took (Got q piece) ∷ log) q.0))
+IsBroughtBy (Took (Got q piece)) log b = IsIn b (fetched_blocks (counted_part (Took (Got q piece) ∷ log) q.0))
 IsBroughtBy (Took (Gone q)) log b = ⊥
 IsBroughtBy (Took (Tick s)) log b = ⊥
 IsBroughtBy (Took Ended) log b = ⊥
@@ -162,7 +162,7 @@ IsBroughtBy (Closed q) log b = ⊥
 
 -- of each peer the same blocks were fetched
 abbrev pub IsSameFetched : Log → Log → Type 0
-IsSameFetched a b = (p : ℕ) → fetched (counted_part a p) ≡ fetched (counted_part b p)
+IsSameFetched a b = (p : ℕ) → fetched_blocks (counted_part a p) ≡ fetched_blocks (counted_part b p)
 
 -- an entry that brings no bytes of a peer
 abbrev pub IsNoPiece : Event → Type 0
@@ -354,7 +354,7 @@ AreShorterBefore log chain p = (q : ℕ) → q < p → IsConnected log q → len
 pub record IsBest (log : Log) (chain : Chain) : Type 0 where
   pub longest : (p : ℕ) → IsConnected log p → length (own (counted_part log p)) ≤ length chain
   pub shown : ((p : ℕ) × (IsConnected log p × (own (counted_part log p) ≡ chain) × AreShorterBefore log chain p))
-      ⊎ (((p : ℕ) → connected (trail log p) ≡ false) × (chain ≡ []))
+      ⊎ (((p : ℕ) → is_connected (trail log p) ≡ false) × (chain ≡ []))
 
 -- it isn't genesis
 abbrev pub IsAbove : Hash → Type 0

@@ -3,7 +3,7 @@ use Rattle.std.specs.Prelude.{◌≡◌, ◌≢◌, ℕ, zero, suc, ◌≤◌, p
 use Rattle.cf_bytes.specs.declared.hash.Hash32.{Hash32}
 use Rattle.cf_block.specs.declared.tx.Block.{Block}
 use Rattle.cf_chain.specs.Good.{IsGoodChain, headers_of}
-use Rattle.cf_chain.specs.Grow.{top_hash, announcement, answered}
+use Rattle.cf_chain.specs.Grow.{top_hash, announcement, growing_answers}
 use Rattle.cf_chain.specs.Serve.{is_version}
 use Rattle.cf_headers.specs.Chain.{Hash, Chain, IsWithinLimit, NoHashClash}
 use Rattle.cf_headers.specs.Shown.{Shows}
@@ -33,7 +33,7 @@ pub record Turn : Type 0 where
 abbrev pub left_then : List Block → Bool → List Msg → List Msg → List Msg
 left_then blocks met (n ∷ left) asked = n ∷ left
 left_then blocks met [] [] = []
-left_then blocks met [] (q ∷ asked) = answered (pos 0) 0 blocks met q
+left_then blocks met [] (q ∷ asked) = growing_answers (pos 0) 0 blocks met q
 
 -- whether a version was answered then
 abbrev pub met_then : Bool → List Msg → List Msg → Bool

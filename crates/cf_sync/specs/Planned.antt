@@ -2,8 +2,8 @@
 use Rattle.std.specs.Prelude.{◌≡◌, ◌⊎◌, ℕ, ◌==◌, Bool, true, false, not, ◌&&◌, ◌||◌, if◌then◌else◌, [], ◌∷◌, ◌++◌}
 use Rattle.cf_wires.specs.declared.event.Event.TheVariants.{SendFailed, Closed, Took}
 use Rattle.cf_wires.specs.Log.{Log, tally_of}
-use Rattle.cf_peer.specs.Trail.{Trail, Part, Called, Said, Refused, Passed, part_of, trail, connected, failed}
-use Rattle.cf_peer.specs.Asking.{counted, fetched, given}
+use Rattle.cf_peer.specs.Trail.{Trail, Part, Called, Said, Refused, Passed, part_of, trail, is_connected, has_failed}
+use Rattle.cf_peer.specs.Asking.{counted, fetched_blocks, given_filters}
 use Rattle.cf_match.specs.declared.job.Job.{Job}
 use Rattle.cf_headers.specs.Chain.{Hash}
 use Rattle.cf_sync.specs.Fetching.{IsGiven, IsTest, IsTested, is_after_tick}
@@ -37,7 +37,7 @@ IsMeant (_ ∷ t) = IsMeant t
 abbrev pub Alike : Part → Part → Type 0
 Alike t u =
     (t ≡ u)
-    ⊎ ((connected t.trail ≡ false) × (connected u.trail ≡ false) × (failed t.trail ≡ true) × (failed u.trail ≡ true) × (fetched (counted t.trail) ≡ fetched (counted u.trail)) × (given (counted t.trail) ≡ given (counted u.trail)))
+    ⊎ ((is_connected t.trail ≡ false) × (is_connected u.trail ≡ false) × (has_failed t.trail ≡ true) × (has_failed u.trail ≡ true) × (fetched_blocks (counted t.trail) ≡ fetched_blocks (counted u.trail)) × (given_filters (counted t.trail) ≡ given_filters (counted u.trail)))
 
 -- a filter is to be tested by the one log as by the other
 abbrev pub IsSameTest : Log → Log → ℕ → Hash → Type 0
@@ -58,4 +58,4 @@ pub record IsPlanned (planned log : Log) : Type 0 where
   pub tests : (job : Job) → IsTested log job → IsTested planned job
   pub gave : IsSameGiven planned log
   pub ticked : is_after_tick planned ≡ is_after_tick log
-  pub aims : (q : ℕ) → is_untold log q ≡ false → connected (trail log q) ≡ true → (block : Hash) → IsSameTest planned log q block
+  pub aims : (q : ℕ) → is_untold log q ≡ false → is_connected (trail log q) ≡ true → (block : Hash) → IsSameTest planned log q block

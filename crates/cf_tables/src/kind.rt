@@ -1,7 +1,7 @@
 //! What is still to be done about a block.
 ghost use Rattle.std.specs.Prelude.{◌≡◌, ◌≢◌, ℕ, List, true, false, None, IsSome};
-ghost use Rattle.cf_tables.specs.declared.kind.Kind.{Kind};
-ghost use Rattle.cf_tables.specs.declared.kind.Kind.TheVariants.{Done, Unjudged};
+ghost use Rattle.cf_tables.specs.declared.kind.BlockStage.{BlockStage};
+ghost use Rattle.cf_tables.specs.declared.kind.BlockStage.TheVariants.{Done, Unjudged};
 ghost use Rattle.cf_dispute.specs.{tables_of, IsAt, blocks_of};
 ghost use Rattle.cf_dispute.specs.declared.claim.At.TheVariants.{Differ};
 ghost use Rattle.cf_headers.specs.{IsIn};
@@ -19,7 +19,7 @@ use cf_match::Verdict;
 
 /// What is still to be done about a block.
 #[derive(Clone, Copy, Debug)]
-pub enum Kind {
+pub enum BlockStage {
     /// Nobody claims anything of its filter, and it has no extract.
     Unclaimed,
     /// Its filter is to be asked for.
@@ -31,19 +31,19 @@ pub enum Kind {
 }
 
 // What is still to be done about a block, where it has no extract.
-fn kind_unfetched(claims: &Claims, judged: &Judged, block: &Hash32) -> Kind
+fn kind_unfetched(claims: &Claims, judged: &Judged, block: &Hash32) -> BlockStage
     ensures unfetched { (extracts : ExtractTable) → extracts block.now.0 ≡ None
         → IsKind extracts (tables_of claims.now) (verdicts_in judged.now) block.now.0 result }
     ensures done { result ≡ Done → (extracts : ExtractTable)
         → IsDone extracts (tables_of claims.now) (verdicts_in judged.now) block.now.0 }
 {
     match claims.at(block) {
-        At::Nobody => Kind::Unclaimed,
-        At::Differ => Kind::ToFetch,
+        At::Nobody => BlockStage::Unclaimed,
+        At::Differ => BlockStage::ToFetch,
         At::One(hash) => match judged.get(block, &hash) {
-            None => Kind::Unjudged,
-            Some(Verdict::Miss) => Kind::Done,
-            Some(Verdict::Hit) => Kind::ToFetch,
+            None => BlockStage::Unjudged,
+            Some(Verdict::Miss) => BlockStage::Done,
+            Some(Verdict::Hit) => BlockStage::ToFetch,
         },
     }
 }
@@ -57,15 +57,15 @@ fn is_fetched(extracts: &Extracts, block: &Hash32) -> bool
 }
 
 /// What is still to be done about a block. Most filters miss, so its extract is looked for last.
-pub fn kind_of(extracts: &Extracts, claims: &Claims, judged: &Judged, block: &Hash32) -> Kind
+pub fn kind_of(extracts: &Extracts, claims: &Claims, judged: &Judged, block: &Hash32) -> BlockStage
     ensures { IsKind (table_in extracts.now) (tables_of claims.now) (verdicts_in judged.now) block.now.0 result }
 {
     let kind = kind_unfetched(claims, judged, block);
     if is_done(kind) {
-        return Kind::Done;
+        return BlockStage::Done;
     }
     if is_fetched(extracts, block) {
-        return Kind::Done;
+        return BlockStage::Done;
     }
     kind
 }
@@ -92,29 +92,29 @@ pub fn kind_above(
     judged: &Judged,
     first: &First,
     block: &Hash32,
-) -> Kind
+) -> BlockStage
     ensures { IsKindAbove (table_in extracts.now) (tables_of claims.now) (verdicts_in judged.now) block.now.0 result }
 {
     if first.is(block) {
-        return Kind::Done;
+        return BlockStage::Done;
     }
     kind_of(extracts, claims, judged, block)
 }
 
 /// Whether nothing is to be done.
-pub fn is_done(kind: Kind) -> bool
+pub fn is_done(kind: BlockStage) -> bool
     ensures yes { result ≡ true → kind ≡ Done }
     ensures no { result ≡ false → kind ≢ Done }
 {
-    matches!(kind, Kind::Done)
+    matches!(kind, BlockStage::Done)
 }
 
 /// Whether a filter is to be asked for.
-pub fn is_unjudged(kind: Kind) -> bool
+pub fn is_unjudged(kind: BlockStage) -> bool
     ensures yes { result ≡ true → kind ≡ Unjudged }
     ensures no { result ≡ false → kind ≢ Unjudged }
 {
-    matches!(kind, Kind::Unjudged)
+    matches!(kind, BlockStage::Unjudged)
 }
 
 /// Whether different things are claimed of a block.

@@ -14,7 +14,7 @@ use Rattle.cf_walk.specs.declared.cause.RecordCause.TheVariants.{Cut, Magic, Too
 use Rattle.cf_walk.specs.declared.judge.Judge.{Judge}
 use Rattle.cf_walk.specs.Records.{Taken, max_record, cut_off, is_magic, is_short, magic, magic_at, length_at, head_at, text_at, record_at}
 use Rattle.cf_walk.specs.Files.{in_block, block_here}
-use Rattle.cf_walk.specs.Judging.{Firm, IsFirm, cause_by, passed, next_by}
+use Rattle.cf_walk.specs.Judging.{Firm, IsFirm, cause_by, block_unless, next_by}
 
 field_case : {X : Type 0} (bytes more : List ℕ) (r s : Read X CutFault) → ((x : X × List ℕ) → r ≡ Ok x → s ≡ Ok (x.0, x.1 ++ more)) → Firm (cut_off r) more (cut_off s)
 field_case bytes more (Ok x) s h = ap cut_off (h x refl)
@@ -65,11 +65,11 @@ pub record_firm : IsFirm record_at
 unfolding record_at
 record_firm = bind_firm head_at text_at head_firm (λ n. field_firm (bytes_at n) (bytes_stable n))
 
-passed_firm : (o : Option RecordCause) (b : Block) → IsFirm (passed o b)
+passed_firm : (o : Option RecordCause) (b : Block) → IsFirm (block_unless o b)
 passed_firm None b rest more = refl
 passed_firm (Some cause) b rest more = λ never. refl
 
-block_firm : (cause : Block → Option RecordCause) (r : Result Block RecordCause) → IsFirm (λ rest. r >>= λ b. passed (cause b) b rest)
+block_firm : (cause : Block → Option RecordCause) (r : Result Block RecordCause) → IsFirm (λ rest. r >>= λ b. block_unless (cause b) b rest)
 block_firm cause (Ok b) rest more = passed_firm (cause b) b rest more
 block_firm cause (Err c) rest more = λ never. refl
 
@@ -77,7 +77,7 @@ block_firm cause (Err c) rest more = λ never. refl
 pub next_firm : (j : Judge) → IsFirm (next_by j)
 unfolding next_by
 next_firm j =
-    bind_firm record_at (λ text rest. in_block (stored_block_at text) >>= λ b. passed (cause_by j.tip.0 j.past j.height j.coins b) b rest) record_firm
+    bind_firm record_at (λ text rest. in_block (stored_block_at text) >>= λ b. block_unless (cause_by j.tip.0 j.past j.height j.coins b) b rest) record_firm
     (λ text. block_firm (cause_by j.tip.0 j.past j.height j.coins) (in_block (stored_block_at text)))
 
 -- the block of the record that stands first

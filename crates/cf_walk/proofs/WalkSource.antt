@@ -28,7 +28,7 @@ use Rattle.cf_coins.specs.Spending.{spend_txs}
 use Rattle.cf_walk.specs.Files.{all_zeros, in_block, in_header, in_height, in_commitment, in_coins, or_else, block_here}
 use Rattle.cf_walk.specs.declared.walk.WalkStop.{WalkStop}
 use Rattle.cf_walk.specs.declared.walk.WalkStop.TheVariants as stops
-use Rattle.cf_walk.specs.Judging.{EndsWith, IsBlank, IsReady, IsWhole, Firm, Strips, Walks, WalksOver, cause_by, passed, next_by}
+use Rattle.cf_walk.specs.Judging.{EndsWith, IsBlank, IsReady, IsWhole, Firm, Strips, Walks, WalksOver, cause_by, block_unless, next_by}
 use Rattle.cf_walk.proofs.FileLaws.{both, is_zero}
 use Rattle.cf_walk.proofs.WalkFirm.{next_firm}
 
@@ -60,14 +60,14 @@ cause_uncut tip past height coins b =
     (or_uncut (in_height height) _ (height_uncut (nat_le max_height height))
     (or_uncut (in_commitment (commit_fault b)) (in_coins (spend_txs coins b.txs)) (commit_uncut (commit_fault b)) (coins_uncut (spend_txs coins b.txs))))
 
-passed_cut : (c : RecordCause) (b : Block) (rest : List ℕ) → passed (Some c) b rest ≡ Err Cut → c ≡ Cut
+passed_cut : (c : RecordCause) (b : Block) (rest : List ℕ) → block_unless (Some c) b rest ≡ Err Cut → c ≡ Cut
 passed_cut c b rest e = cc
 
-passed_uncut : (o : Option RecordCause) (b : Block) (rest : List ℕ) → (o ≡ Some Cut → ⊥) → passed o b rest ≡ Err Cut → ⊥
+passed_uncut : (o : Option RecordCause) (b : Block) (rest : List ℕ) → (o ≡ Some Cut → ⊥) → block_unless o b rest ≡ Err Cut → ⊥
 passed_uncut None b rest never e = cc
 passed_uncut (Some c) b rest never e = never (ap Some (passed_cut c b rest e))
 
-block_uncut : (cause : Block → Option RecordCause) → ((b : Block) → cause b ≡ Some Cut → ⊥) → (r : Read Block BlockFault) (rest : List ℕ) → (in_block r >>= λ b. passed (cause b) b rest) ≡ Err Cut → ⊥
+block_uncut : (cause : Block → Option RecordCause) → ((b : Block) → cause b ≡ Some Cut → ⊥) → (r : Read Block BlockFault) (rest : List ℕ) → (in_block r >>= λ b. block_unless (cause b) b rest) ≡ Err Cut → ⊥
 block_uncut cause never (Ok x) rest e = passed_uncut (cause x.0) x.0 rest (never x.0) e
 block_uncut cause never (Err f) rest e = cc
 
@@ -77,7 +77,7 @@ refusal c = Err c
 cut_is : (c : RecordCause) → refusal c ≡ refusal Cut → c ≡ Cut
 cut_is c e = cc
 
-text_uncut : (cause : Block → Option RecordCause) → ((b : Block) → cause b ≡ Some Cut → ⊥) → (r : Taken (List ℕ)) → (r >>= λ text. in_block (stored_block_at text.0) >>= λ b. passed (cause b) b text.1) ≡ Err Cut → r ≡ Err Cut
+text_uncut : (cause : Block → Option RecordCause) → ((b : Block) → cause b ≡ Some Cut → ⊥) → (r : Taken (List ℕ)) → (r >>= λ text. in_block (stored_block_at text.0) >>= λ b. block_unless (cause b) b text.1) ≡ Err Cut → r ≡ Err Cut
 text_uncut cause never (Ok text) e = absurd (block_uncut cause never (stored_block_at text.0) text.1 e)
 text_uncut cause never (Err c) e = ap Err (cut_is c e)
 
@@ -308,7 +308,7 @@ zeros_refused j held more blank =
     let f = first_zeros held blank.0 blank.1 in
     let many : 4 ≤ length (f.0 ++ more) = omega (arith, f.2, length-append f.0 more) in
     ap (next_by j) (ap (λ (l : List ℕ). l ++ more) f.1)
-    ∙ ap (λ r. (r >>= λ n. text_at n.0 n.1) >>= λ text. in_block (stored_block_at text.0) >>= λ b. passed (cause_by j.tip.0 j.past j.height j.coins b) b text.1) (head_refused (f.0 ++ more) many)
+    ∙ ap (λ r. (r >>= λ n. text_at n.0 n.1) >>= λ text. in_block (stored_block_at text.0) >>= λ b. block_unless (cause_by j.tip.0 j.past j.height j.coins b) b text.1) (head_refused (f.0 ++ more) many)
 
 zeros_append : (a b : List ℕ) → all_zeros a ≡ true → all_zeros (a ++ b) ≡ all_zeros b
 zeros_append [] b z = refl

@@ -25,7 +25,7 @@ use Rattle.cf_walk.specs.Records.{Taken, record_with, max_record, record_at}
 use Rattle.cf_coins.specs.Spending.{spend_txs}
 use Rattle.cf_walk.specs.Files.{all_zeros, in_block, in_header, in_height, in_commitment, in_coins, or_else, put_on, cause_on, next_at, blocks_from}
 use Rattle.cf_walk.specs.Progress.{HasRecord, RefusesFor}
-use Rattle.cf_walk.specs.Judging.{BeginsWith, StandsOn, Walks, cause_by, passed, next_by, after_by, added}
+use Rattle.cf_walk.specs.Judging.{BeginsWith, StandsOn, Walks, cause_by, block_unless, next_by, after_by, added}
 use Rattle.cf_walk.proofs.Growing.{headers_more, coins_more, good_more}
 use Rattle.cf_walk.proofs.FileSteps.{one_more, bad_here}
 
@@ -39,19 +39,19 @@ cause_is j blocks b s = λ i.
 
 -- ---- the step is that of the definition
 
-pass_case : (blocks : List Block) (b : Block) (rest : List ℕ) (o : Option RecordCause) → (put_on o blocks b >>= λ more. Ok (more, rest)) ≡ added blocks (passed o b rest)
+pass_case : (blocks : List Block) (b : Block) (rest : List ℕ) (o : Option RecordCause) → (put_on o blocks b >>= λ more. Ok (more, rest)) ≡ added blocks (block_unless o b rest)
 pass_case blocks b rest None = refl
 pass_case blocks b rest (Some cause) = refl
 
 block_case : (j : Judge) (blocks : List Block) → StandsOn j blocks → (rest : List ℕ) (r : Result Block RecordCause)
-    → (r >>= λ b. put_on (cause_on blocks b) blocks b >>= λ more. Ok (more, rest)) ≡ added blocks (r >>= λ b. passed (cause_by j.tip.0 j.past j.height j.coins b) b rest)
+    → (r >>= λ b. put_on (cause_on blocks b) blocks b >>= λ more. Ok (more, rest)) ≡ added blocks (r >>= λ b. block_unless (cause_by j.tip.0 j.past j.height j.coins b) b rest)
 block_case j blocks s rest (Ok b) =
     ap (λ (o : Option RecordCause). put_on o blocks b >>= λ more. Ok (more, rest)) (sym (cause_is j blocks b s)) ∙ pass_case blocks b rest (cause_by j.tip.0 j.past j.height j.coins b)
 block_case j blocks s rest (Err cause) = refl
 
 text_case : (j : Judge) (blocks : List Block) → StandsOn j blocks → (r : Taken (List ℕ))
     → (r >>= λ text. in_block (stored_block_at text.0) >>= λ b. put_on (cause_on blocks b) blocks b >>= λ more. Ok (more, text.1))
-    ≡ added blocks (r >>= λ text. in_block (stored_block_at text.0) >>= λ b. passed (cause_by j.tip.0 j.past j.height j.coins b) b text.1)
+    ≡ added blocks (r >>= λ text. in_block (stored_block_at text.0) >>= λ b. block_unless (cause_by j.tip.0 j.past j.height j.coins b) b text.1)
 text_case j blocks s (Ok text) = block_case j blocks s text.1 (in_block (stored_block_at text.0))
 text_case j blocks s (Err cause) = refl
 
@@ -61,18 +61,18 @@ next_added j blocks bytes s = text_case j blocks s (record_at bytes)
 
 -- ---- a block that is given may stand
 
-pass_none : (cause : Block → Option RecordCause) (b x : Block) (rest more : List ℕ) (o : Option RecordCause) → o ≡ cause b → passed o b rest ≡ Ok (x, more) → cause x ≡ None
+pass_none : (cause : Block → Option RecordCause) (b x : Block) (rest more : List ℕ) (o : Option RecordCause) → o ≡ cause b → block_unless o b rest ≡ Ok (x, more) → cause x ≡ None
 pass_none cause b x rest more None is e =
     let made : Taken Block = Ok (b, rest) in
     let both = value_of (b, rest) (x, more) made refl e in
     ap (λ p. cause p.0) (sym both) ∙ sym is
 pass_none cause b x rest more (Some c) is e = cc
 
-block_none : (cause : Block → Option RecordCause) (x : Block) (rest more : List ℕ) (r : Result Block RecordCause) → (r >>= λ b. passed (cause b) b rest) ≡ Ok (x, more) → cause x ≡ None
+block_none : (cause : Block → Option RecordCause) (x : Block) (rest more : List ℕ) (r : Result Block RecordCause) → (r >>= λ b. block_unless (cause b) b rest) ≡ Ok (x, more) → cause x ≡ None
 block_none cause x rest more (Ok b) e = pass_none cause b x rest more (cause b) refl e
 block_none cause x rest more (Err c) e = cc
 
-text_none : (cause : Block → Option RecordCause) (x : Block) (more : List ℕ) (r : Taken (List ℕ)) → (r >>= λ text. in_block (stored_block_at text.0) >>= λ b. passed (cause b) b text.1) ≡ Ok (x, more) → cause x ≡ None
+text_none : (cause : Block → Option RecordCause) (x : Block) (more : List ℕ) (r : Taken (List ℕ)) → (r >>= λ text. in_block (stored_block_at text.0) >>= λ b. block_unless (cause b) b text.1) ≡ Ok (x, more) → cause x ≡ None
 text_none cause x more (Ok text) e = block_none cause x text.1 more (in_block (stored_block_at text.0)) e
 text_none cause x more (Err c) e = cc
 
@@ -126,15 +126,15 @@ hashed_so (Some b) old new is = ap (λ (j : Judge). bytes_of j.txids) is ∙ nam
 
 -- ---- a block that is refused
 
-next_by_is : (j : Judge) (bytes text rest : List ℕ) (b : Block) → record_at bytes ≡ Ok (text, rest) → in_block (stored_block_at text) ≡ Ok b → next_by j bytes ≡ passed (cause_by j.tip.0 j.past j.height j.coins b) b rest
+next_by_is : (j : Judge) (bytes text rest : List ℕ) (b : Block) → record_at bytes ≡ Ok (text, rest) → in_block (stored_block_at text) ≡ Ok b → next_by j bytes ≡ block_unless (cause_by j.tip.0 j.past j.height j.coins b) b rest
 unfolding next_by
 next_by_is j bytes text rest b read is =
-    ap (λ r. r >>= λ text. in_block (stored_block_at text.0) >>= λ b. passed (cause_by j.tip.0 j.past j.height j.coins b) b text.1) read
-    ∙ ap (λ r. r >>= λ b. passed (cause_by j.tip.0 j.past j.height j.coins b) b rest) is
+    ap (λ r. r >>= λ text. in_block (stored_block_at text.0) >>= λ b. block_unless (cause_by j.tip.0 j.past j.height j.coins b) b text.1) read
+    ∙ ap (λ r. r >>= λ b. block_unless (cause_by j.tip.0 j.past j.height j.coins b) b rest) is
 
 pub walks_refused : (j : Judge) (bytes new text rest : List ℕ) (b : Block) (e : Refused RecordCause) → all_zeros bytes ≡ false → record_at bytes ≡ Ok (text, rest) → in_block (stored_block_at text) ≡ Ok b
     → RefusesFor (cause_by j.tip.0 j.past j.height j.coins b) e → Walks (next_by j bytes) bytes new (Err e)
-walks_refused j bytes new text rest b (No cause) some read is for = (some, next_by_is j bytes text rest b read is ∙ ap (λ (o : Option RecordCause). passed o b rest) for)
+walks_refused j bytes new text rest b (No cause) some read is for = (some, next_by_is j bytes text rest b read is ∙ ap (λ (o : Option RecordCause). block_unless o b rest) for)
 walks_refused j bytes new text rest b NoMemory some read is for = tt
 
 -- ---- a block that is given

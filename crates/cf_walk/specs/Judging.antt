@@ -35,16 +35,16 @@ cause_by tip past height coins b =
     (or_else (in_commitment (commit_fault b))
     (in_coins (spend_txs coins b.txs))))
 
-abbrev pub passed : Option RecordCause → Block → List ℕ → Taken Block
-passed None b rest = Ok (b, rest)
-passed (Some cause) b rest = Err cause
+abbrev pub block_unless : Option RecordCause → Block → List ℕ → Taken Block
+block_unless None b rest = Ok (b, rest)
+block_unless (Some cause) b rest = Err cause
 
 -- the block of the record that stands here, and the bytes after it
 unfoldable pub next_by : Judge → List ℕ → Taken Block
 next_by j bytes = do
   text ← record_at bytes
   b ← in_block (stored_block_at text.0)
-  passed (cause_by j.tip.0 j.past j.height j.coins b) b text.1
+  block_unless (cause_by j.tip.0 j.past j.height j.coins b) b text.1
 
 -- the hashes of a block's transactions
 abbrev pub txids_of : Block → List Hash32

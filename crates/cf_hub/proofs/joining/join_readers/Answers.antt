@@ -1,7 +1,7 @@
 use Rattle.std.proofs.Common.{arith, ◌∙◌, ap, sym, length, refl, map}
 use Rattle.cf_tasks.specs.declared.entry.Item.{Item}
 use Rattle.cf_tasks.specs.declared.entry.View.{View}
-use Rattle.cf_outside.specs.declared.entry.Kind.{Kind}
+use Rattle.cf_outside.specs.declared.entry.EntryKind.{EntryKind}
 use Rattle.crossbeam_channel.specs.Claims.{view}
 use Rattle.cf_hub.specs.Finish.{whose, begun}
 use Rattle.cf_hub.proofs.Finishes.{moves_on, one_less, finishes, positive, none_left, no_more, whose_more, ended_more}
@@ -33,7 +33,7 @@ loop-busy-preserved g c = let i = c.loop-busy.invariant in let st = c.in-Some.en
       ring = c.take.ensures.ring ∙ i.ring;
       got = ap (λ v. v.got) c.take.ensures.ended ∙ i.got;
       whose = whose_more _ _ _ _ c.in-Some.busy c.push_reserved.ensures.items i.whose (c.number-number.ensures ∙ c.wait-source.ensures.1) (ap (λ b. b.source) c.of-of.ensures);
-      ended = ended_more _ _ _ _ _ _ _ _ i.ended (ap (λ v. v.ended) c.take.ensures.ended) c.push_reserved.ensures.items (c.wait-source.result.sender.numbered ∙ sym c.number-number.ensures) (ap (λ s. (view {X = Item Kind} {V = View Kind} s.seat).sent) (sym c.of-seat.ensures));
+      ended = ended_more _ _ _ _ _ _ _ _ i.ended (ap (λ v. v.ended) c.take.ensures.ended) c.push_reserved.ensures.items (c.wait-source.result.sender.numbered ∙ sym c.number-number.ensures) (ap (λ s. (view {X = Item EntryKind} {V = View EntryKind} s.seat).sent) (sym c.of-seat.ensures));
     }
 
 pub returns-clause-whose : goal.returns-clause-whose

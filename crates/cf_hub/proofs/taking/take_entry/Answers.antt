@@ -3,7 +3,7 @@ use Rattle.crossbeam_channel.specs.Claims.{view}
 use Rattle.cf_wires.specs.Log.{tell}
 use Rattle.cf_wires.specs.declared.event.Event.TheVariants.{Took}
 use Rattle.cf_wires.specs.declared.event.Delivery.TheVariants as gives
-use Rattle.cf_outside.specs.declared.entry.Kind.TheVariants as kinds
+use Rattle.cf_outside.specs.declared.entry.EntryKind.TheVariants as kinds
 use Rattle.cf_hub.specs.Book.{told_of}
 use Rattle.cf_hub.proofs.Takes.{not_given, is_given, got_is, gone_is, tick_is, got_none, gone_none, tick_none}
 use Rattle.cf_hub.proofs.taking.take_entry.Goals as goal

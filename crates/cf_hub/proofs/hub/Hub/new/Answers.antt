@@ -5,7 +5,7 @@ use Rattle.cf_hub.proofs.Begins.{no_some, nothing_log}
 use Rattle.cf_hub.proofs.Heard.{nobody}
 use Rattle.cf_hub.specs.Book.{told_of}
 use Rattle.cf_hub.specs.Gives.{given_of}
-use Rattle.cf_hub.specs.Over.{connected, numbers_from}
+use Rattle.cf_hub.specs.Over.{connections, numbers_from}
 use Rattle.cf_hub.specs.Finish.{numbers_of}
 use Rattle.cf_hub.proofs.Opened.{first_open}
 use Rattle.cf_hub.proofs.Takes.{for_some, none_for, no_fronts}
@@ -38,6 +38,6 @@ invariant_of-result-2 g c =
       fronts = no_fronts _ _ c.in_ok-parts.parts.lists.undone;
       beats = none_for _ _ refl;
       unshut = λ _. first_open _ _ _ c.in_ok-parts.parts.lists.nobody;
-      reading_are = λ _. ap numbers_of c.in_ok-parts.parts.lists.unread ∙ sym (ap (λ l. numbers_from 0 (connected l)) c.in_ok-parts.parts.lists.nobody);
+      reading_are = λ _. ap numbers_of c.in_ok-parts.parts.lists.unread ∙ sym (ap (λ l. numbers_from 0 (connections l)) c.in_ok-parts.parts.lists.nobody);
       done_are = λ j. absurd (true≢false (sym j));
     }

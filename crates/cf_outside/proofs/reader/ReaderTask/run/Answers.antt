@@ -1,13 +1,13 @@
 use Rattle.std.proofs.Common.{rules, ◌≡◌, ◌∙◌, sym, subst, List, true, false}
 use Rattle.cf_tasks.specs.declared.entry.Item.{Item}
-use Rattle.cf_outside.specs.declared.entry.Kind.{Kind}
+use Rattle.cf_outside.specs.declared.entry.EntryKind.{EntryKind}
 use Rattle.cf_outside.proofs.Readers.{SoFar, starts, goes_on, stops, has_stopped}
 use Rattle.cf_outside.proofs.reader.ReaderTask.run.Goals as goal
 
 pub loop-init : goal.loop-init
 loop-init g c =
     let s = g.S.Source in
-    let Q : List (Item Kind) → Type 0 = λ l. SoFar s.left s.faults s.ended c.args.self.source l c.args.self.source in
+    let Q : List (Item EntryKind) → Type 0 = λ l. SoFar s.left s.faults s.ended c.args.self.source l c.args.self.source in
     record { ring = search rules; number = search rules; returned = search rules; so_far = subst Q (sym c.args.self.fresh) (starts s.left s.faults s.ended c.args.self.source) }
 
 pub returns-then-not-read_one : goal.returns-then-not-read_one

@@ -1,13 +1,13 @@
 use Rattle.std.proofs.Common.{rules, ◌≡◌, ◌∙◌, sym, subst, List, true, false}
 use Rattle.cf_tasks.specs.declared.entry.Item.{Item}
-use Rattle.cf_outside.specs.declared.entry.Kind.{Kind}
+use Rattle.cf_outside.specs.declared.entry.EntryKind.{EntryKind}
 use Rattle.cf_outside.proofs.Tickers.{SoFar, starts, goes_on, stops, has_stopped, was_told}
 use Rattle.cf_outside.proofs.ticker.TickerTask.run.Goals as goal
 
 pub loop-init : goal.loop-init
 loop-init g c =
     let s = g.P.Pulse in
-    let Q : List (Item Kind) → Type 0 = λ l. SoFar s.answers c.args.self.pulse l c.args.self.pulse in
+    let Q : List (Item EntryKind) → Type 0 = λ l. SoFar s.answers c.args.self.pulse l c.args.self.pulse in
     record { ring = search rules; number = search rules; returned = search rules; so_far = subst Q (sym c.args.self.fresh) (starts s.answers c.args.self.pulse) }
 
 pub returns-then-not-tick_one : goal.returns-then-not-tick_one
