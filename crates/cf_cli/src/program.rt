@@ -414,8 +414,8 @@ where
 /// of `wires` is kept only where a record is asked for. `make` puts its records into its file; of the other commands
 /// only `sync` and `follow` with a record change a file. Of the files at most those that the command names are read,
 /// the watch file first and each once, a file of blocks by parts, and after that at most the one that it writes is
-/// written, once. Where a call of `files` has failed the answer is `FileFault`, and where one of `link` has `LinkFault`:
-/// with any other answer their counts of faults stay.
+/// written, once. Where a call of `files` has failed the answer is `FileFault`, and where one of `link` has
+/// `LinkFault`: with any other answer their counts of faults stay.
 ///
 /// How each peer stands once `sync`, `follow` or `replay` has made its run is put into `ends`, in the order of their
 /// numbers. Where no run was begun, and with each other command, `ends` stays as it is handed in.

@@ -100,8 +100,8 @@ pub fn what_is_kept_of_open_requests_goes_on()
         → request t ≡ NothingOpen → OpensFilters before after p asked → is_connected u ≡ true
         → request u ≡ FiltersOpen asked [] → OpensAt after p u }
     ensures block { (before after : Opens) (p : ℕ) (t u : Trail) (asked : List ℕ) → OpensAt before p t
-        → request t ≡ NothingOpen → OpensBlock before after p asked → is_connected u ≡ true → request u ≡ BlockOpen asked
-        → OpensAt after p u }
+        → request t ≡ NothingOpen → OpensBlock before after p asked → is_connected u ≡ true
+        → request u ≡ BlockOpen asked → OpensAt after p u }
     ensures closed { (before after : Opens) (p : ℕ) (u : Trail) → Closes before after p
         → (is_connected u ≡ true → request u ≡ NothingOpen) → OpensAt after p u }
     ensures same { (opens : Opens) (p : ℕ) (t u : Trail) → OpensAt opens p t → is_connected u ≡ is_connected t

@@ -1,5 +1,5 @@
-//! Tasks that are run once, what runs them in threads of their own, queues between threads through which what each sends
-//! comes in its order, and how threads read and write streams.
+//! Tasks that are run once, what runs them in threads of their own, queues between threads through which what each
+//! sends comes in its order, and how threads read and write streams.
 #![tactic(auto)]
 
 mod ends;
