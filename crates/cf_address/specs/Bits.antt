@@ -1,5 +1,5 @@
 -- statement: numbers as lists of bits, the most significant first.
-use Rattle.std.specs.Prelude.{◌≡◌, ℕ, suc, zero, ◌<◌, ◌==◌, Bool, false, List, [], ◌∷◌, ◌++◌, replicate}
+use Rattle.std.specs.Prelude.{◌≡◌, ℕ, ◌<◌, ◌==◌, Bool, false, List, ◌∷◌, ◌++◌, replicate}
 use Rattle.cf_bytes.specs.Bits.{bits_of}
 use Rattle.std.specs.List.{All, flat_map}
 

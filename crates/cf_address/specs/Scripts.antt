@@ -4,7 +4,7 @@ use Rattle.std.specs.Char.{to_ascii_lowercase}
 use Rattle.cf_address.specs.Alphabet.{value_of}
 use Rattle.cf_address.specs.Bits.{all_bits}
 use Rattle.cf_address.specs.Faults.{data_after}
-use Rattle.cf_address.specs.Witness.{WitnessProgram, script_of}
+use Rattle.cf_address.specs.Witness.{script_of}
 
 -- the number that bits are, the most significant first
 unfoldable pub number_of_bits : List Bool → ℕ

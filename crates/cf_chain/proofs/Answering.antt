@@ -9,9 +9,10 @@ use Rattle.cf_block.specs.declared.header.Header.{Header}
 use Rattle.cf_block.specs.declared.tx.Block.{Block}
 use Rattle.cf_msg.specs.declared.msg.Msg.{Msg}
 use Rattle.cf_msg.specs.declared.msg.Msg.TheVariants.{Version, GetCfilters, GetCfheaders, GetCfcheckpt}
+use Rattle.cf_msg.specs.Message.{is_version}
 use Rattle.cf_chain.specs.Filters.{filters_of, filter_at}
 use Rattle.cf_chain.specs.Heights.{block_height}
-use Rattle.cf_chain.specs.Serve.{within, range_end, filters_between, cfilter_of, cfilters_reply, cfheaders_reply, cfcheckpt_reply, reply_to, replies_to, is_version}
+use Rattle.cf_chain.specs.Serve.{within, range_end, filters_between, cfilter_of, cfilters_reply, cfheaders_reply, cfcheckpt_reply, reply_to, replies_to}
 use Rattle.cf_chain.proofs.Places.{slice_get-take, slice_get-drop, height_within, length-filters_of}
 
 pub nothing_above : (most fork : ℕ) → take {A = Header} most (drop fork []) ≡ []

@@ -5,7 +5,7 @@ use Rattle.std.proofs.lemmas.Bool.{cases_Bool, false≢true, eqb-true}
 use Rattle.cf_block.specs.declared.tx.Block.{Block}
 use Rattle.cf_msg.specs.declared.msg.Msg.{Msg}
 use Rattle.cf_msg.specs.declared.msg.Msg.TheVariants.{Version}
-use Rattle.cf_chain.specs.Serve.{is_version}
+use Rattle.cf_msg.specs.Message.{is_version}
 use Rattle.cf_chain.specs.Grow.{Mark, NotMet, Told, mark_at, announcement, top_hash, growing_answers, GrowAnswer, grow_answer, IsToldFirst, Service, served_all, Asking, asked_by, answers_over, IsAnsweredAlone}
 
 pub alone : (now : ℤ) (nonce : ℕ) (fits : List Block → Block → Bool) (blocks : List Block) (asked : List Asking) (c : ℕ)

@@ -7,9 +7,10 @@ use Rattle.cf_headers.specs.Chain.{Hash, tip_hash}
 use Rattle.cf_msg.specs.declared.msg.Inventory.{Inventory}
 use Rattle.cf_msg.specs.declared.msg.Msg.{Msg}
 use Rattle.cf_msg.specs.declared.msg.Msg.TheVariants.{GetData, Inv, Block as BlockMessage}
+use Rattle.cf_msg.specs.Message.{is_version}
 use Rattle.cf_chain.specs.Good.{headers_of}
 use Rattle.cf_chain.specs.Heights.{block_height}
-use Rattle.cf_chain.specs.Serve.{is_version, replies_to}
+use Rattle.cf_chain.specs.Serve.{replies_to}
 
 -- the hash of a chain's highest block
 abbrev pub top_hash : List Block → Hash

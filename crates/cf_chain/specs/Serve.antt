@@ -9,7 +9,7 @@ use Rattle.cf_filter.specs.Filter.{filter_hash_of}
 use Rattle.cf_msg.specs.declared.msg.Inventory.{Inventory}
 use Rattle.cf_msg.specs.declared.msg.Msg.{Msg}
 use Rattle.cf_msg.specs.declared.msg.Msg.TheVariants.{Version, Verack, Ping, Pong, GetHeaders, Headers, GetData, Block as BlockMessage, GetCfilters, Cfilter, GetCfheaders, Cfheaders, GetCfcheckpt, Cfcheckpt}
-use Rattle.cf_msg.specs.declared.msg.NetAddress.{NetAddress}
+use Rattle.cf_msg.specs.Message.{is_version, no_address}
 use Rattle.cf_chain.specs.Filters.{Filtered, filters_of, filter_at}
 use Rattle.cf_chain.specs.Heights.{all_blocks, block_height}
 
@@ -127,10 +127,6 @@ reply_to blocks (GetCfheaders filter start stop) = cfheaders_reply start (range_
 reply_to blocks (GetCfcheckpt filter stop) = cfcheckpt_reply (if filter == 0 then block_height stop blocks else None) stop blocks
 reply_to blocks m = []
 
--- no network address: no services, and zeros for the IP address and the port
-abbrev pub no_address : NetAddress
-no_address = record { services = 0; ip = replicate 16 0; port = 0 }
-
 -- the machine's version: protocol 70016, services 65 (bits 0 and 6), no addresses, its agent, its height, no relay
 abbrev pub version_reply : ℤ → ℕ → List Block → Msg
 version_reply now nonce blocks = Version (pos 70016) 65 now no_address no_address nonce (codes "/cf:1/") (pos (length blocks)) (Some 0)
@@ -140,11 +136,6 @@ abbrev pub replies_to : ℤ → ℕ → List Block → Bool → Msg → List Msg
 replies_to now nonce blocks true m = reply_to blocks m
 replies_to now nonce blocks false (Version version services time to from number agent height relay) = version_reply now nonce blocks ∷ Verack ∷ []
 replies_to now nonce blocks false m = []
-
--- whether a message is a version
-abbrev pub is_version : Msg → Bool
-is_version (Version version services time to from nonce agent height relay) = true
-is_version m = false
 
 -- nothing is answered before the first version, and no later version is
 abbrev pub replies : ℤ → ℕ → List Block → Bool → List Msg → List Msg

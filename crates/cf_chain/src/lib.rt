@@ -6,10 +6,11 @@ ghost use Rattle.cf_bytes.specs.declared.hash.Hash32.{Hash32};
 ghost use Rattle.cf_block.specs.declared.tx.Block.{Block};
 ghost use Rattle.cf_msg.specs.declared.msg.Msg.{Msg};
 ghost use Rattle.cf_msg.specs.declared.msg.Msg.TheVariants.{GetHeaders, Headers, GetCfilters, GetCfheaders, GetCfcheckpt};
+ghost use Rattle.cf_msg.specs.Message.{is_version};
 ghost use Rattle.cf_chain.specs.Filters.{filter_at};
 ghost use Rattle.cf_chain.specs.Grow.{Asking, IsAnsweredAlone, IsToldFirst, NotMet, Told, growing_answers, grow_answer, mark_at};
 ghost use Rattle.cf_chain.specs.Heights.{block_height};
-ghost use Rattle.cf_chain.specs.Serve.{reply_to, replies_to, is_version, cfilter_of};
+ghost use Rattle.cf_chain.specs.Serve.{reply_to, replies_to, cfilter_of};
 
 /// Genesis alone has no headers to tell, whatever a locator knows. Nothing is answered before a version, and no second
 /// version is. Another filter type than the basic one isn't answered, nor is a stop hash that isn't in the chain, nor a

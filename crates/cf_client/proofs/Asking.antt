@@ -13,11 +13,10 @@ use Rattle.cf_headers.specs.Chain.{Chain, no_hash, locator_from, locator_of, IsW
 use Rattle.cf_headers.proofs.Locators.{locator_fits}
 use Rattle.cf_msg.specs.declared.msg.Inventory.{Inventory}
 use Rattle.cf_msg.specs.declared.msg.Msg.TheVariants.{Version, Ping, GetHeaders, GetData, GetCfilters, GetCfheaders}
-use Rattle.cf_msg.specs.Message.{payload_of, IsEntry}
+use Rattle.cf_msg.specs.Message.{payload_of, IsEntry, no_address}
 use Rattle.cf_msg.proofs.Sizes.{version_size, getheaders_size, entries_size, range_size}
 use Rattle.cf_peer.specs.Acts.{IsSendable}
 use Rattle.cf_peer.specs.Asking.{block_entry}
-use Rattle.cf_peer.specs.Trail.{no_address}
 use Rattle.cf_place.specs.Places.{IsGreeting, IsQuestion, IsFetch}
 
 -- the hashes of a locator have 32 bytes each

@@ -9,6 +9,7 @@ use Rattle.cf_headers.specs.declared.store.HeaderStore.{Ghosts}
 use Rattle.cf_match.specs.declared.matcher.Matcher.{Ghosts as Judges}
 use Rattle.cf_msg.specs.declared.msg.Msg.{Msg}
 use Rattle.cf_msg.specs.declared.msg.Msg.TheVariants.{Version}
+use Rattle.cf_msg.specs.Message.{is_version}
 use Rattle.cf_peer.specs.declared.act.Act.{Act}
 use Rattle.cf_peer.specs.declared.act.Act.TheVariants.{Send, Close}
 use Rattle.cf_peer.specs.declared.mode.Mode.{Mode}
@@ -18,7 +19,7 @@ use Rattle.cf_wires.specs.declared.event.Event.TheVariants.{Sent, Closed, Took}
 use Rattle.cf_wires.specs.declared.event.Mark.TheVariants as mark
 use Rattle.cf_peer.specs.Acts.{bytes_of}
 use Rattle.cf_wires.specs.Log.{Log}
-use Rattle.cf_peer.specs.Trail.{Trail, Part, Lost, part_of, trail, asks, spelled, with_item, heard_part, is_connected, is_greeted, is_version}
+use Rattle.cf_peer.specs.Trail.{Trail, Part, Lost, part_of, trail, asks, spelled, with_item, heard_part, is_connected, is_greeted}
 use Rattle.cf_peer.specs.Asking.{MayAskIn}
 use Rattle.cf_sync.specs.Fetching.{Rule}
 use Rattle.cf_client.specs.declared.client.Client.{Client}

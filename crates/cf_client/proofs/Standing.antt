@@ -10,6 +10,7 @@ use Rattle.cf_bytes.specs.declared.peer.PeerNo.{PeerNo}
 use Rattle.cf_headers.specs.Chain.{Chain}
 use Rattle.cf_msg.specs.declared.msg.Msg.{Msg}
 use Rattle.cf_msg.specs.declared.msg.Msg.TheVariants.{Version, GetHeaders}
+use Rattle.cf_msg.specs.Message.{is_version}
 use Rattle.cf_peer.specs.declared.act.Act.{Act}
 use Rattle.cf_peer.specs.declared.act.Act.TheVariants.{Send, Close}
 use Rattle.cf_wires.specs.declared.event.Event.{Event}
@@ -22,7 +23,7 @@ use Rattle.cf_peer.specs.declared.peer.Cause.TheVariants.{Omits, Overdue}
 use Rattle.cf_peer.specs.declared.peer.Peer.{Peer}
 use Rattle.cf_peer.specs.Acts.{bytes_of, IsSendable}
 use Rattle.cf_wires.specs.Log.{Log, tally_of, noted}
-use Rattle.cf_peer.specs.Trail.{replies_owed, Trail, Part, Called, Asked, Lost as LostItem, part_of, trail, went_on, asks, spelled, with_item, called_part, is_connected, own, replies_sent, as_reply, is_version, IsClientVersion}
+use Rattle.cf_peer.specs.Trail.{replies_owed, Trail, Part, Called, Asked, Lost as LostItem, part_of, trail, went_on, asks, spelled, with_item, called_part, is_connected, own, replies_sent, as_reply, IsClientVersion}
 use Rattle.cf_peer.specs.Asking.{counted, age, is_open, MayAskIn, IsFree}
 use Rattle.cf_peer.specs.Peer.{Holds, heard_out, wants, is_idle_peer, called_peer, asked_for_headers}
 use Rattle.cf_sync.specs.Blame.{HasOmitted}

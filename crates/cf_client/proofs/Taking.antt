@@ -14,6 +14,7 @@ use Rattle.cf_frame.specs.Stream.{read_stream}
 use Rattle.cf_msg.specs.declared.msg.Msg.{Msg}
 use Rattle.cf_msg.specs.declared.msg.Msg.TheVariants.{Verack, Pong}
 use Rattle.cf_msg.specs.Reading.{message_of}
+use Rattle.cf_msg.specs.Message.{is_version}
 use Rattle.cf_peer.specs.declared.act.Act.{Act}
 use Rattle.cf_peer.specs.declared.act.Act.TheVariants.{Send, Close}
 use Rattle.cf_peer.specs.declared.mode.Mode.{Mode}
@@ -25,7 +26,7 @@ use Rattle.cf_peer.specs.declared.peer.Cause.TheVariants.{SendFailed, Omits}
 use Rattle.cf_peer.specs.declared.peer.Peer.{Peer}
 use Rattle.cf_peer.specs.Acts.{bytes_of, IsSendable, IsDoable}
 use Rattle.cf_wires.specs.Log.{Log, tally_of}
-use Rattle.cf_peer.specs.Trail.{Trail, Part, Asked, Lost as LostItem, item_of, item_of_read, hears, hears_fault, heard_part, part_of, trail, went_on, with_item, is_connected, has_failed, is_greeted, has_version, own, is_heard_out, replies_owed, replies_sent, as_reply, is_version}
+use Rattle.cf_peer.specs.Trail.{Trail, Part, Asked, Lost as LostItem, item_of, item_of_read, hears, hears_fault, heard_part, part_of, trail, went_on, with_item, is_connected, has_failed, is_greeted, has_version, own, is_heard_out, replies_owed, replies_sent, as_reply}
 use Rattle.cf_peer.specs.Asking.{claims, request, verdict, counted, IsNextReply}
 use Rattle.cf_peer.specs.Peer.{Holds, calm}
 use Rattle.cf_peer.specs.Hearing.{IsReply}

@@ -12,7 +12,7 @@ use Rattle.cf_hear.specs.Tracks.{chain_kept}
 use Rattle.cf_match.specs.declared.job.Job.{Job}
 use Rattle.cf_msg.specs.declared.msg.Msg.{Msg}
 use Rattle.cf_msg.specs.declared.msg.Msg.TheVariants.{Cfheaders}
-use Rattle.cf_peer.specs.Trail.{Trail, Part, part_of, Called, Said, Refused, Asked, Passed, Lost, trail, is_connected, own}
+use Rattle.cf_peer.specs.Trail.{Trail, Part, part_of, Called, Said, trail, is_connected, own}
 use Rattle.cf_peer.specs.declared.mode.Mode.TheVariants.{Following}
 use Rattle.cf_peer.specs.Asking.{OpenRequest, NothingOpen, HeadersOpen, ClaimsOpen, FiltersOpen, BlockOpen, PingOpen, is_answer_of, request, counted, fetched_blocks, given_filters}
 use Rattle.cf_sync.specs.Fetching.{IsConnected, IsGiven, RightlyIn}

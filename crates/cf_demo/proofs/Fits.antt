@@ -15,10 +15,11 @@ use Rattle.cf_chain.specs.Coins.{CoinMap, after_block}
 use Rattle.cf_chain.specs.Good.{IsGoodChain, AreGoodBlocks}
 use Rattle.cf_chain.specs.Heights.{all_blocks, block_height}
 use Rattle.cf_chain.specs.Filters.{Filtered, first_filtered, filters_of}
-use Rattle.cf_chain.specs.Serve.{fork_height, most_headers, next_headers, block_in, block_with, headers_reply, data_reply, within, range_end, filters_between, cfilter_of, cfilters_reply, header_before, cfheaders_reply, reply_to, replies_to, replies, version_reply, is_version}
+use Rattle.cf_chain.specs.Serve.{fork_height, most_headers, next_headers, block_in, block_with, headers_reply, data_reply, within, range_end, filters_between, cfilter_of, cfilters_reply, header_before, cfheaders_reply, reply_to, replies_to, replies, version_reply}
 use Rattle.cf_msg.specs.declared.msg.Inventory.{Inventory}
 use Rattle.cf_msg.specs.declared.msg.Msg.{Msg}
 use Rattle.cf_msg.specs.declared.msg.Msg.TheVariants.{Version, Verack, Ping, GetHeaders, Headers, GetData, Block as BlockMessage, GetCfilters, GetCfheaders, Cfheaders, GetCfcheckpt}
+use Rattle.cf_msg.specs.Message.{is_version}
 use Rattle.cf_peer.specs.Acts.{IsSendable}
 use Rattle.cf_peer.specs.Asking.{MayAsk}
 use Rattle.cf_peer.specs.Trail.{Trail}

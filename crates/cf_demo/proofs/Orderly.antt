@@ -4,9 +4,10 @@ use Rattle.std.specs.Prelude.{◌||◌}
 use Rattle.std.specs.List.{list_any}
 use Rattle.cf_msg.specs.declared.msg.Msg.{Msg}
 use Rattle.cf_msg.specs.declared.msg.Msg.TheVariants.{Version}
+use Rattle.cf_msg.specs.Message.{is_version}
 use Rattle.cf_wires.specs.declared.event.Event.TheVariants.{Dialled, NotDialled, Sent, SendFailed, Closed, Took}
 use Rattle.cf_wires.specs.Log.{Log}
-use Rattle.cf_peer.specs.Trail.{Trail, Called, Said, Refused, Asked, Passed, Lost, trail, is_connected, is_greeted, is_version, IsClientVersion}
+use Rattle.cf_peer.specs.Trail.{Trail, Called, Said, Refused, Asked, Passed, Lost, trail, is_connected, is_greeted, IsClientVersion}
 use Rattle.cf_sync.specs.Honesty.{messages_asked}
 use Rattle.cf_place.specs.Standing.{IsGreetedBy}
 use Rattle.cf_run.specs.Run.{WasOrderly}

@@ -10,7 +10,7 @@ use Rattle.cf_block.specs.Header.{block_hash_of}
 use Rattle.cf_block.specs.Genesis.{first_block}
 use Rattle.cf_chain.specs.Good.{IsGoodChain, headers_of}
 use Rattle.cf_chain.specs.Heights.{block_height}
-use Rattle.cf_chain.specs.Serve.{is_version, fork_height, most_headers, block_with, data_reply, range_end, cfilter_of, filters_between, cfilters_reply, cfheaders_reply, cfcheckpt_reply, reply_to, replies_to, replies}
+use Rattle.cf_chain.specs.Serve.{fork_height, most_headers, block_with, data_reply, range_end, cfilter_of, filters_between, cfilters_reply, cfheaders_reply, cfcheckpt_reply, reply_to, replies_to, replies}
 use Rattle.cf_frame.specs.declared.frame.Frame.{Frame}
 use Rattle.cf_frame.specs.declared.frame.FrameFault.{FrameFault}
 use Rattle.cf_frame.specs.Stream.{StreamRead, read_stream}
@@ -23,6 +23,7 @@ use Rattle.cf_msg.specs.declared.msg.Malformed.{Malformed}
 use Rattle.cf_msg.specs.declared.msg.Msg.{Msg}
 use Rattle.cf_msg.specs.declared.msg.Msg.TheVariants.{Version, Ping, GetHeaders, Headers, GetData, Block as BlockMessage, GetCfilters, GetCfheaders, GetCfcheckpt}
 use Rattle.cf_msg.specs.Reading.{message_of}
+use Rattle.cf_msg.specs.Message.{is_version}
 use Rattle.cf_wires.specs.declared.event.Delivery.TheVariants.{Got, Gone, Tick, Ended}
 use Rattle.cf_wires.specs.declared.event.Event.TheVariants.{Dialled, NotDialled, Sent, SendFailed, Closed, Took}
 use Rattle.cf_wires.specs.declared.event.Mark.TheVariants as mark

@@ -6,9 +6,10 @@ use Rattle.cf_bytes.specs.Hash.{hash_of}
 use Rattle.cf_bytes.specs.Cut.{bytes_at, number_at}
 use Rattle.cf_bytes.proofs.Codecs.{bind_is, bytes_again, u32_again}
 use Rattle.cf_bytes.proofs.HashLemmas.{length-hash_of}
+use Rattle.cf_bytes.specs.Magic.{magic}
 use Rattle.cf_frame.specs.declared.frame.Frame.{Frame}
 use Rattle.cf_frame.specs.declared.header.Header.{Header}
-use Rattle.cf_frame.specs.Frame.{magic, checksum, spelling, IsFrame}
+use Rattle.cf_frame.specs.Frame.{checksum, spelling, IsFrame}
 use Rattle.cf_frame.specs.Reading.{header_at, header_fault, front_of, header_front, judged_front, payload_front, Begins}
 use Rattle.cf_frame.proofs.Suffix.{regroup}
 

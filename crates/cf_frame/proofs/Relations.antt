@@ -9,11 +9,12 @@ use Rattle.std.specs.List.{flat_map}
 use Rattle.cf_bytes.specs.declared.cut.CutFault.{CutFault}
 use Rattle.cf_bytes.specs.Cut.{IsBytes, Read, bytes_at, number_at}
 use Rattle.cf_bytes.proofs.Codecs.{bind_ok, value_of, bytes_again, bytes_taken, u32_taken}
+use Rattle.cf_bytes.specs.Magic.{magic}
 use Rattle.cf_frame.specs.declared.frame.Frame.{Frame}
 use Rattle.cf_frame.specs.declared.frame.FrameFault.{FrameFault}
 use Rattle.cf_frame.specs.declared.frame.FrameFault.TheVariants.{Magic, Command, Oversize, Checksum}
 use Rattle.cf_frame.specs.declared.header.Header.{Header}
-use Rattle.cf_frame.specs.Frame.{magic, is_command, checksum, spelling, IsFrame}
+use Rattle.cf_frame.specs.Frame.{is_command, checksum, spelling, IsFrame}
 use Rattle.cf_frame.specs.Reading.{Begins, Front, header_at, header_fault, front_of, header_front, judged_front, payload_front}
 use Rattle.cf_frame.specs.Stream.{HasNoFrame, HasHeader, HasOtherSum, FailsFirst, IsBad, IsStreamOf, StreamRead, read_stream}
 use Rattle.cf_frame.proofs.Again.{again, header_again, none_begins}

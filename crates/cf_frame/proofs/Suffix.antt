@@ -2,8 +2,9 @@
 use Rattle.std.proofs.Common.{◌≡◌, ℕ, ◌-◌, ◌≤◌, List, ◌++◌, length, take, drop, refl, sym, ap, ◌∙◌, arith, append_assoc, length-append, Bool, true, false, not}
 use Rattle.std.proofs.lemmas.List.{drop_at, take_rest, take-append-drop}
 use Rattle.std.specs.Int.{w32, to_le_bytes}
+use Rattle.cf_bytes.specs.Magic.{magic}
 use Rattle.cf_frame.specs.declared.frame.Frame.{Frame}
-use Rattle.cf_frame.specs.Frame.{magic, checksum, spelling, is_command}
+use Rattle.cf_frame.specs.Frame.{checksum, spelling, is_command}
 use Rattle.cf_frame.specs.Reading.{Begins}
 use Rattle.std.specs.Str.{bytes_eq}
 use Rattle.std.proofs.lemmas.Slice.Eq.{bytes_eq-Decides}

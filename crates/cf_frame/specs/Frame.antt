@@ -1,13 +1,10 @@
 -- statement: frames of the Bitcoin protocol on regtest, by the developer reference ("Message headers").
-use Rattle.std.specs.Prelude.{◌≡◌, ℕ, ◌≤◌, nat_le, ◌==◌, Bool, true, ◌&&◌, take_while, List, [], ◌∷◌, ◌++◌, length, take, drop}
+use Rattle.std.specs.Prelude.{◌≡◌, ℕ, ◌≤◌, nat_le, ◌==◌, Bool, true, ◌&&◌, take_while, List, ◌++◌, length, take, drop}
 use Rattle.std.specs.Int.{w32, to_le_bytes}
 use Rattle.std.specs.List.{list_all}
 use Rattle.cf_bytes.specs.Hash.{hash_of}
+use Rattle.cf_bytes.specs.Magic.{magic}
 use Rattle.cf_frame.specs.declared.frame.Frame.{Frame}
-
--- the four bytes that begin each frame
-abbrev pub magic : List ℕ
-magic = 0xfa ∷ 0xbf ∷ 0xb5 ∷ 0xda ∷ []
 
 -- a byte that a command may have before its NULs
 abbrev pub is_printable : ℕ → Bool

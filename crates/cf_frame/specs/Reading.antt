@@ -6,11 +6,12 @@ use Rattle.cf_bytes.specs.declared.cut.CutFault.{CutFault}
 use Rattle.cf_bytes.specs.declared.memory.Refused.{Refused}
 use Rattle.cf_bytes.specs.declared.memory.Refused.TheVariants.{No, NoMemory}
 use Rattle.cf_bytes.specs.Cut.{Read, bytes_at, number_at, ◌>>=◌}
+use Rattle.cf_bytes.specs.Magic.{magic}
 use Rattle.cf_frame.specs.declared.frame.Frame.{Frame}
 use Rattle.cf_frame.specs.declared.frame.FrameFault.{FrameFault}
 use Rattle.cf_frame.specs.declared.frame.FrameFault.TheVariants.{Magic, Command, Oversize, Checksum}
 use Rattle.cf_frame.specs.declared.header.Header.{Header}
-use Rattle.cf_frame.specs.Frame.{magic, is_command, checksum, spelling, IsFrame}
+use Rattle.cf_frame.specs.Frame.{is_command, checksum, spelling, IsFrame}
 
 -- the header, field by field
 unfoldable pub header_at : List ℕ → Read Header CutFault

@@ -2,11 +2,12 @@
 use Rattle.std.specs.Prelude.{◌≡◌, ℕ, zero, suc, ◌<◌, ◌≤◌, ◌^◌, false, true, List, [], ◌∷◌, ◌++◌, length, Option, Some, None, Ok, Err}
 use Rattle.std.specs.Int.{w32, to_le_bytes}
 use Rattle.std.specs.List.{flat_map, AllByRecursion}
+use Rattle.cf_bytes.specs.Magic.{magic}
 use Rattle.cf_frame.specs.declared.frame.Frame.{Frame}
 use Rattle.cf_frame.specs.declared.frame.FrameFault.{FrameFault}
 use Rattle.cf_frame.specs.declared.frame.FrameFault.TheVariants.{Magic, Command, Oversize, Checksum}
 use Rattle.cf_frame.specs.declared.header.Header.{Header}
-use Rattle.cf_frame.specs.Frame.{magic, is_command, checksum, spelling, IsFrame}
+use Rattle.cf_frame.specs.Frame.{is_command, checksum, spelling, IsFrame}
 use Rattle.cf_frame.specs.Reading.{Begins, Front, front_of}
 
 -- no whole frame stands at the front

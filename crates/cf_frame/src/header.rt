@@ -3,7 +3,8 @@ ghost use Rattle.std.specs.Prelude.{◌≡◌, ◌==◌, ◌≤◌, ◌++◌, le
 ghost use Rattle.std.specs.Int.{w32, to_le_bytes};
 ghost use Rattle.std.specs.List.{list_all};
 ghost use Rattle.cf_bytes.specs.{Reads};
-ghost use Rattle.cf_frame.specs.Frame.{is_command as is_command_of, is_printable as printable_of, magic};
+ghost use Rattle.cf_bytes.specs.Magic.{magic};
+ghost use Rattle.cf_frame.specs.Frame.{is_command as is_command_of, is_printable as printable_of};
 ghost use Rattle.cf_frame.specs.Reading.{header_at, header_fault};
 
 use crate::frame::{FrameFault, MAX_PAYLOAD};

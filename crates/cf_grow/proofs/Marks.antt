@@ -7,9 +7,10 @@ use Rattle.cf_block.specs.declared.tx.Block.{Block}
 use Rattle.cf_block.specs.Header.{block_hash_of}
 use Rattle.cf_chain.specs.Grow.{Mark as Told, NotMet, Told as IsTold, mark_at, is_met, announcement, asked_for, wanted_entries, growing_answers, top_hash, told_first, marked, grow_answer}
 use Rattle.cf_chain.specs.Heights.{all_blocks}
-use Rattle.cf_chain.specs.Serve.{is_version, replies_to}
+use Rattle.cf_chain.specs.Serve.{replies_to}
 use Rattle.cf_chain.proofs.Tops.{top_at}
 use Rattle.cf_msg.specs.declared.msg.Msg.{Msg}
+use Rattle.cf_msg.specs.Message.{is_version}
 use Rattle.cf_server.specs.declared.answering.Serving.{Serving}
 use Rattle.cf_grow.specs.declared.taking.Answer.{Answer}
 use Rattle.cf_grow.specs.declared.mark.Mark.{Mark}

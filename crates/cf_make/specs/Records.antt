@@ -4,15 +4,12 @@ use Rattle.std.specs.Prelude.{ℕ, Bool, if◌then◌else◌, List, [], ◌∷�
 use Rattle.std.specs.Int.{w32, to_le_bytes}
 use Rattle.std.specs.List.{flat_map}
 use Rattle.cf_bytes.specs.Compact.{compact}
+use Rattle.cf_bytes.specs.Magic.{magic}
 use Rattle.cf_block.specs.declared.tx.Tx.{Tx}
 use Rattle.cf_block.specs.declared.tx.Block.{Block}
 use Rattle.cf_block.specs.Header.{header_spelling}
 use Rattle.cf_block.specs.Tx.{tx_spelling, block_spelling}
 use Rattle.cf_block.specs.Stored.{Stack, extended_spelling}
-
--- regtest's magic
-abbrev pub magic : List ℕ
-magic = 0xfa ∷ 0xbf ∷ 0xb5 ∷ 0xda ∷ []
 
 -- a block's record, its coinbase without a witness
 unfoldable pub record_of : Block → List ℕ

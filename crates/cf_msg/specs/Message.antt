@@ -1,6 +1,6 @@
 -- statement: how messages are spelled: the command and the payload of each (Bitcoin developer reference, "P2P Network"; for the six messages of
 -- compact filters BIP 157).
-use Rattle.std.specs.Prelude.{◌≡◌, ℕ, ◌<◌, ◌≤◌, ◌^◌, true, List, [], ◌∷◌, ◌++◌, length, Option, Some, None, FitsSigned}
+use Rattle.std.specs.Prelude.{◌≡◌, ℕ, ◌<◌, ◌≤◌, ◌^◌, Bool, true, false, List, [], ◌∷◌, ◌++◌, length, replicate, Option, Some, None, FitsSigned}
 use Rattle.std.specs.Int.{w16, w32, w64, to_le_bytes, to_be_bytes, cast_unsigned}
 use Rattle.std.specs.List.{flat_map, AllByRecursion}
 use Rattle.cf_bytes.specs.Compact.{compact}
@@ -27,6 +27,10 @@ pub record IsAddress (a : NetAddress) : Type 0 where
   pub services : a.services < 2 ^ 64
   pub ip : length a.ip ≡ 16
   pub port : a.port < 2 ^ 16
+
+-- no network address: no services, and zeros for the IP address and the port
+abbrev pub no_address : NetAddress
+no_address = record { services = 0; ip = replicate 16 0; port = 0 }
 
 -- a byte, or nothing
 abbrev pub byte_or_none : Option ℕ → List ℕ
@@ -150,3 +154,8 @@ pub record Spells (m : Msg) (command payload : List ℕ) : Type 0 where
 -- the frame that carries a message
 abbrev pub frame_of : Msg → Frame
 frame_of m = record { command = command_of m; payload = payload_of m }
+
+-- a message is a version
+abbrev pub is_version : Msg → Bool
+is_version (Version version services time to from nonce agent height relay) = true
+is_version m = false

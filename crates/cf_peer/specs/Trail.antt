@@ -1,5 +1,5 @@
 -- statement: one peer's part of a log, message by message, the newest first, and what can be said of it. Nothing here knows of the client.
-use Rattle.std.specs.Prelude.{◌≡◌, ◌⊎◌, ℕ, pos, ◌==◌, nat_lt, Bool, true, false, ◌&&◌, ◌||◌, if◌then◌else◌, List, [], ◌∷◌, ◌++◌, replicate, codes, length, Option, Some, None, Result, Ok, Err, bit_and, is_none}
+use Rattle.std.specs.Prelude.{◌≡◌, ◌⊎◌, ℕ, pos, ◌==◌, nat_lt, Bool, true, false, ◌&&◌, ◌||◌, if◌then◌else◌, List, [], ◌∷◌, ◌++◌, codes, length, Option, Some, None, Result, Ok, Err, bit_and, is_none}
 use Rattle.std.specs.List.{list_any}
 use Rattle.cf_frame.specs.declared.frame.Frame.{Frame}
 use Rattle.cf_frame.specs.declared.frame.FrameFault.{FrameFault}
@@ -10,8 +10,8 @@ use Rattle.cf_msg.specs.declared.msg.Inventory.{Inventory}
 use Rattle.cf_msg.specs.declared.msg.Malformed.{Malformed}
 use Rattle.cf_msg.specs.declared.msg.Msg.{Msg}
 use Rattle.cf_msg.specs.declared.msg.Msg.TheVariants.{Version, Verack, Ping, Pong, Headers, Inv}
-use Rattle.cf_msg.specs.declared.msg.NetAddress.{NetAddress}
 use Rattle.cf_msg.specs.Reading.{message_of}
+use Rattle.cf_msg.specs.Message.{is_version, no_address}
 use Rattle.cf_wires.specs.declared.event.Delivery.{Delivery}
 use Rattle.cf_wires.specs.declared.event.Delivery.TheVariants.{Got, Gone, Tick, Ended}
 use Rattle.cf_wires.specs.declared.event.Event.{Event}
@@ -131,11 +131,6 @@ part_of (e ∷ log) p = went_on e p (part_of log p)
 -- what of a log passed between the client and the peer with this number
 abbrev pub trail : Log → ℕ → Trail
 trail log p = (part_of log p).trail
-
--- a message is a version
-abbrev pub is_version : Msg → Bool
-is_version (Version version services time to from nonce agent height relay) = true
-is_version m = false
 
 -- a message is a verack
 abbrev pub is_verack : Msg → Bool
@@ -277,10 +272,6 @@ replies_sent [] = []
 replies_sent (Called ∷ t) = []
 replies_sent (Asked m ∷ t) = replies_sent t ++ as_reply m
 replies_sent (_ ∷ t) = replies_sent t
-
--- no network address: no services, and zeros for the IP address and the port
-abbrev pub no_address : NetAddress
-no_address = record { services = 0; ip = replicate 16 0; port = 0 }
 
 -- a message is the client's version, whatever moment and number it tells: protocol 70016, no services, no addresses,
 -- its agent, height 0, no relay

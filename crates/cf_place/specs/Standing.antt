@@ -3,13 +3,14 @@ use Rattle.std.specs.Prelude.{◌++◌, ◌≡◌, ◌⊎◌, ℕ, ℤ, ◌+◌,
 use Rattle.std.specs.List.{list_any}
 use Rattle.cf_msg.specs.declared.msg.Msg.{Msg}
 use Rattle.cf_msg.specs.declared.msg.Msg.TheVariants.{Version}
+use Rattle.cf_msg.specs.Message.{is_version}
 use Rattle.cf_peer.specs.declared.mode.Mode.TheVariants.{Following}
 use Rattle.cf_peer.specs.declared.peer.Cause.{Cause}
 use Rattle.cf_peer.specs.declared.peer.Cause.TheVariants.{SendFailed, Omits}
 use Rattle.cf_wires.specs.declared.event.Mark.{Mark}
 use Rattle.cf_wires.specs.declared.event.Mark.TheVariants as mark
 use Rattle.cf_wires.specs.Log.{Log, tally_of}
-use Rattle.cf_peer.specs.Trail.{Trail, Called, Said, Refused, Asked, Passed, Lost as LostItem, trail, is_connected, ready, has_failed, replies_owed, replies_sent, is_version, IsClientVersion}
+use Rattle.cf_peer.specs.Trail.{Trail, Called, Lost as LostItem, trail, is_connected, ready, has_failed, replies_owed, replies_sent, IsClientVersion}
 use Rattle.cf_peer.specs.Asking.{Deserves, claims, counted, given_filters}
 use Rattle.cf_sync.specs.Blame.{HasOmitted}
 use Rattle.cf_sync.specs.Fetching.{IsBusy, IsQuiet, IsConnected, IsOmitting, RightlyIn}

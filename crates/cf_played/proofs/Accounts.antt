@@ -9,8 +9,9 @@ use Rattle.std.proofs.lemmas.List.{append-nil, length-map, reverse-append, take-
 use Rattle.std.proofs.lemmas.List.Elements.{filter-append}
 use Rattle.cf_bytes.specs.declared.peer.PeerNo.{PeerNo}
 use Rattle.cf_block.specs.declared.tx.Block.{Block}
-use Rattle.cf_chain.specs.Serve.{is_version, replies}
+use Rattle.cf_chain.specs.Serve.{replies}
 use Rattle.cf_msg.specs.declared.msg.Msg.{Msg}
+use Rattle.cf_msg.specs.Message.{is_version}
 use Rattle.cf_wires.specs.declared.event.Delivery.TheVariants.{Got, Tick}
 use Rattle.cf_wires.specs.declared.event.Event.{Event}
 use Rattle.cf_wires.specs.declared.event.Event.TheVariants.{Dialled, Sent, Closed, Took}

@@ -3,10 +3,10 @@ use Rattle.std.proofs.Common.{◌≡◌, ℕ, ◌+◌, ◌<◌, Bool, false, Lis
 use Rattle.std.specs.Prelude.{◌||◌, pos}
 use Rattle.std.proofs.lemmas.List.{append-nil, map-append, take_at, take_more}
 use Rattle.cf_block.specs.declared.tx.Block.{Block}
-use Rattle.cf_chain.specs.Serve.{is_version, replies, replies_to}
+use Rattle.cf_chain.specs.Serve.{replies, replies_to}
 use Rattle.cf_frame.specs.Frame.{spelling}
 use Rattle.cf_msg.specs.declared.msg.Msg.{Msg}
-use Rattle.cf_msg.specs.Message.{frame_of}
+use Rattle.cf_msg.specs.Message.{frame_of, is_version}
 use Rattle.cf_peer.specs.Acts.{IsSendable}
 use Rattle.cf_wires.specs.Log.{Log}
 use Rattle.cf_server.specs.declared.reply.Reply.{Reply}

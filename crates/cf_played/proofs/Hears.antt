@@ -3,8 +3,9 @@ use Rattle.std.proofs.Common.{◌≡◌, ℕ, Bool, true, List, [], ◌∷◌, �
 use Rattle.std.specs.Prelude.{◌||◌, pos, option_to_list, slice_get, slice_set}
 use Rattle.std.proofs.lemmas.List.{append-nil}
 use Rattle.cf_block.specs.declared.tx.Block.{Block}
-use Rattle.cf_chain.specs.Serve.{is_version, replies, replies_to}
+use Rattle.cf_chain.specs.Serve.{replies, replies_to}
 use Rattle.cf_msg.specs.declared.msg.Msg.{Msg}
+use Rattle.cf_msg.specs.Message.{is_version}
 use Rattle.cf_server.specs.Serving.{text_of}
 use Rattle.cf_server.proofs.Texts.{text-nil}
 use Rattle.cf_played.specs.declared.kind.Way.{Way}

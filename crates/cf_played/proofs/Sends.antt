@@ -5,9 +5,10 @@ use Rattle.std.specs.Int.{w32, to_le_bytes}
 use Rattle.std.proofs.lemmas.List.{length-append, length-take}
 use Rattle.cf_bytes.proofs.HashLemmas.{length-hash_of}
 use Rattle.cf_bytes.specs.Hash.{hash_of}
+use Rattle.cf_bytes.specs.Magic.{magic}
 use Rattle.cf_frame.specs.declared.frame.Frame.{Frame}
 use Rattle.cf_frame.specs.declared.frame.FrameFault.{FrameFault}
-use Rattle.cf_frame.specs.Frame.{IsFrame, checksum, magic, spelling}
+use Rattle.cf_frame.specs.Frame.{IsFrame, checksum, spelling}
 use Rattle.cf_frame.specs.Reading.{Begins, Front, front_of}
 use Rattle.cf_frame.specs.Stream.{StreamRead, read_stream, with_frame}
 use Rattle.cf_frame.proofs.Streams.{stream_bad, stream_empty, stream_frame, stream_waits}

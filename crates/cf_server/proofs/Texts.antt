@@ -12,9 +12,9 @@ use Rattle.cf_frame.specs.Frame.{spelling}
 use Rattle.cf_frame.specs.Reading.{front_of}
 use Rattle.cf_msg.specs.declared.msg.Msg.{Msg}
 use Rattle.cf_msg.specs.declared.msg.Malformed.{Malformed}
-use Rattle.cf_msg.specs.Message.{frame_of}
+use Rattle.cf_msg.specs.Message.{frame_of, is_version}
 use Rattle.cf_msg.specs.Reading.{message_of}
-use Rattle.cf_chain.specs.Serve.{replies, replies_to, is_version}
+use Rattle.cf_chain.specs.Serve.{replies, replies_to}
 use Rattle.cf_server.specs.declared.answering.Serving.{Serving}
 use Rattle.cf_server.specs.declared.outcome.ServeEnd.{ServeEnd}
 use Rattle.cf_server.specs.declared.outcome.ServeEnd.TheVariants.{Closed, BadFrame, Malformed as MalformedFrame, ReadFault, WriteFault, Tired, NoMemory}

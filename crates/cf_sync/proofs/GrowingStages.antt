@@ -7,12 +7,12 @@ use Rattle.cf_chain.specs.Coins.{CoinMap, after_block}
 use Rattle.cf_chain.specs.Filters.{Filtered, prevouts, filtered, filtered_on, first_filtered}
 use Rattle.cf_chain.specs.Good.{headers_of}
 use Rattle.cf_chain.specs.Grow.{top_hash, growing_answers}
-use Rattle.cf_chain.specs.Serve.{is_version as is_version_there}
 use Rattle.cf_dispute.specs.Claims.{Table}
 use Rattle.cf_headers.specs.Chain.{Chain, back_to, IsIn}
 use Rattle.cf_headers.specs.Shown.{IsShown, IsShownSpelling}
 use Rattle.cf_msg.specs.declared.msg.Msg.{Msg}
 use Rattle.cf_msg.specs.declared.msg.Msg.TheVariants.{Version, Verack, Pong}
+use Rattle.cf_msg.specs.Message.{is_version}
 use Rattle.cf_peer.specs.Hearing.{IsReply}
 use Rattle.cf_peer.specs.Asking.{OpenRequest, NothingOpen, PingOpen, is_idle}
 use Rattle.cf_sync.specs.Honesty.{filters_above}
@@ -197,14 +197,14 @@ pub record Waiting (s : Turn) : Type 0 where
   pub none : s.left ≡ []
   pub version : Msg
   pub these : s.asked ≡ version ∷ []
-  pub is : is_version_there version ≡ true
+  pub is : is_version version ≡ true
 
 pub record Greeting (s : Turn) : Type 0 where
   pub known : s.met ≡ true
   pub none : s.asked ≡ []
   pub version : Msg
   pub left : s.left ≡ version ∷ Verack ∷ []
-  pub is : is_version_there version ≡ true
+  pub is : is_version version ≡ true
 
 pub record Shaking (s : Turn) : Type 0 where
   pub known : s.met ≡ true
@@ -272,8 +272,8 @@ stage_up blocks cs false false true j r s low st = (
     })
   ],
 ) where
-  first_answer : (chain : List Block) (v : Msg) → is_version_there v ≡ true
-      → (n : Msg) × ((growing_answers (pos 0) 0 chain false v ≡ n ∷ Verack ∷ []) × (is_version_there n ≡ true))
+  first_answer : (chain : List Block) (v : Msg) → is_version v ≡ true
+      → (n : Msg) × ((growing_answers (pos 0) 0 chain false v ≡ n ∷ Verack ∷ []) × (is_version n ≡ true))
   first_answer chain (Version version services time to from nonce agent height relay) is = (_, (refl, refl))
   first_answer chain v is = cc
 
@@ -282,7 +282,7 @@ stage_up blocks cs false false true j r s low st = (
       let a = first_answer (take s.height blocks) w.version w.is in
       record {
         known = ap (λ (l : List Msg). met_then s.met l s.asked) w.none ∙ ap (λ (qs : List Msg). met_then s.met [] qs)
-            w.these ∙ ap (λ (b : Bool). b || is_version_there w.version) w.unmet ∙ w.is;
+            w.these ∙ ap (λ (b : Bool). b || is_version w.version) w.unmet ∙ w.is;
         none = ap (λ (l : List Msg). asked_then l s.asked) w.none ∙ ap (λ (qs : List Msg). asked_then [] qs) w.these;
         version = a.0;
         left = ap (λ (l : List Msg). left_then (take s.height blocks) s.met l s.asked) w.none

@@ -6,8 +6,9 @@ use Rattle.cf_block.specs.declared.header.Header.{Header}
 use Rattle.cf_block.specs.Header.{IsHeader}
 use Rattle.cf_frame.specs.declared.frame.Frame.{Frame}
 use Rattle.cf_frame.specs.declared.frame.FrameFault.{FrameFault}
-use Rattle.cf_frame.specs.Frame.{magic, checksum, spelling, IsFrame}
+use Rattle.cf_frame.specs.Frame.{checksum, spelling, IsFrame}
 use Rattle.cf_bytes.specs.Cut.{IsBytes}
+use Rattle.cf_bytes.specs.Magic.{magic}
 use Rattle.cf_frame.specs.Stream.{StreamRead, read_stream}
 use Rattle.cf_frame.proofs.Relations.{stream_whole}
 use Rattle.cf_headers.specs.Chain.{IsIn}

@@ -12,7 +12,7 @@ use Rattle.cf_frame.proofs.Streams.{stream_of_spelling}
 use Rattle.cf_headers.specs.Chain.{no_hash}
 use Rattle.cf_msg.specs.declared.msg.Msg.{Msg}
 use Rattle.cf_msg.specs.declared.msg.Msg.TheVariants.{Version, Verack, GetCfheaders, Cfheaders, Cfilter}
-use Rattle.cf_msg.specs.Message.{IsAddress, IsEntry, payload_of, frame_of}
+use Rattle.cf_msg.specs.Message.{IsAddress, IsEntry, payload_of, frame_of, no_address}
 use Rattle.cf_msg.proofs.Table.{again, frame_fits}
 use Rattle.cf_msg.proofs.Sizes.{entries_size}
 use Rattle.cf_wires.specs.declared.event.Delivery.TheVariants.{Got}
@@ -20,7 +20,7 @@ use Rattle.cf_wires.specs.declared.event.Event.TheVariants.{Sent, Took}
 use Rattle.cf_peer.specs.Acts.{bytes_of, IsSendable}
 use Rattle.cf_peer.specs.Asking.{block_entry}
 use Rattle.cf_wires.specs.Log.{Log}
-use Rattle.cf_peer.specs.Trail.{Trail, Part, Said, Asked, no_address, item_of_read, part_after, heard_part, message_in, message_of_stream, spelled, asks, part_of, trail}
+use Rattle.cf_peer.specs.Trail.{Trail, Part, Said, Asked, item_of_read, part_after, heard_part, message_in, message_of_stream, spelled, asks, part_of, trail}
 use Rattle.cf_sync.specs.Example.{only_header, only_hash, our_version, its_version, false_version, question, its_headers, false_headers, fetch, its_block, only_filter, only_filter_hash, genesis_filter_header, ask_claims, its_claims, ask_filter, its_filter}
 use Rattle.cf_sync.proofs.Computed.{name_is, header_fits_type, block_length, block_fits, headers_size}
 

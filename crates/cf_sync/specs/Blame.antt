@@ -5,7 +5,7 @@ use Rattle.cf_headers.specs.Chain.{Hash, Chain, IsIn}
 use Rattle.cf_msg.specs.declared.msg.Msg.{Msg}
 use Rattle.cf_wires.specs.declared.event.Event.TheVariants.{Dialled, Sent, SendFailed, Closed}
 use Rattle.cf_wires.specs.Log.{Log}
-use Rattle.cf_peer.specs.Trail.{Trail, Called, Said, Refused, Asked, Passed, Lost, spelled, own, is_news}
+use Rattle.cf_peer.specs.Trail.{Trail, Called, Said, Asked, spelled, own, is_news}
 use Rattle.cf_peer.specs.Asking.{hashes_of}
 use Rattle.cf_sync.specs.Fetching.{counted_part, IsConnected, IsFetchedHash, HasClaimed, IsDisputed, IsTestedWith, IsOmission, IsOmitting}
 

@@ -4,14 +4,14 @@ use Rattle.cf_bytes.specs.declared.hash.Hash32.{Hash32}
 use Rattle.cf_block.specs.declared.tx.Block.{Block}
 use Rattle.cf_chain.specs.Good.{IsGoodChain, headers_of}
 use Rattle.cf_chain.specs.Grow.{top_hash, announcement, growing_answers}
-use Rattle.cf_chain.specs.Serve.{is_version}
 use Rattle.cf_headers.specs.Chain.{Hash, Chain, IsWithinLimit, NoHashClash}
 use Rattle.cf_headers.specs.Shown.{Shows}
 use Rattle.cf_msg.specs.declared.msg.Inventory.{Inventory}
 use Rattle.cf_msg.specs.declared.msg.Msg.{Msg}
 use Rattle.cf_msg.specs.declared.msg.Msg.TheVariants.{Pong, Inv}
+use Rattle.cf_msg.specs.Message.{is_version}
 use Rattle.cf_wires.specs.Log.{Log}
-use Rattle.cf_peer.specs.Trail.{Trail, Called, Said, Refused, Asked, Passed, Lost, trail}
+use Rattle.cf_peer.specs.Trail.{Trail, Called, Said, Refused, Asked, trail}
 use Rattle.cf_peer.specs.Asking.{lists}
 use Rattle.cf_scan.specs.declared.history.Entry.{Entry as HistoryEntry}
 use Rattle.cf_sync.specs.Fetching.{IsConnected, IsQuiet, counted_part}

@@ -11,6 +11,7 @@ use Rattle.cf_bytes.specs.declared.cut.CutFault.TheVariants.{Short}
 use Rattle.cf_bytes.specs.declared.memory.Refused.{Refused}
 use Rattle.cf_bytes.specs.declared.memory.Refused.TheVariants.{No, NoMemory}
 use Rattle.cf_bytes.proofs.Codecs.{value_of}
+use Rattle.cf_bytes.specs.Magic.{magic}
 use Rattle.cf_block.specs.declared.header.Header.{Header}
 use Rattle.cf_block.specs.declared.tx.Block.{Block}
 use Rattle.cf_block.specs.Genesis.{first_block}
@@ -26,7 +27,7 @@ use Rattle.cf_chain.specs.Coins.{CoinMap, after_block}
 use Rattle.cf_chain.specs.Good.{AreGoodBlocks, IsGoodChain}
 use Rattle.cf_walk.specs.declared.cause.BadBlock.{BadBlock}
 use Rattle.cf_walk.specs.declared.cause.RecordCause.TheVariants.{Cut, Magic}
-use Rattle.cf_walk.specs.Records.{Taken, magic, record_with, max_record, record_spelling, IsRecordOf, AreRecords, joined, HasRecords, cut_off, is_magic, magic_at, length_at, head_at, text_at, record_at}
+use Rattle.cf_walk.specs.Records.{Taken, record_with, max_record, record_spelling, IsRecordOf, AreRecords, joined, HasRecords, cut_off, is_magic, magic_at, length_at, head_at, text_at, record_at}
 use Rattle.cf_walk.specs.Files.{HasFirst, HasGenesis, IsGoodFile, StopsAt, IsBadFile, IfBad, all_zeros, in_block, put_on, next_at, blocks_from, block_here, is_first, behind_first, after_genesis, blocks_after, blocks_at}
 use Rattle.cf_walk.specs.Progress.{HasRecord, IsRecordsOf}
 use Rattle.cf_walk.proofs.Growing.{MayStand, part_stands, no_cause}

@@ -6,8 +6,9 @@ use Rattle.std.proofs.lemmas.Bool.{cases_lt}
 use Rattle.cf_bytes.specs.Cut.{bytes_at, number_at, ◌>>=◌}
 use Rattle.cf_bytes.specs.declared.cut.CutFault.{CutFault}
 use Rattle.cf_bytes.proofs.Codecs.{bind_is, bytes_again, u32_again}
+use Rattle.cf_bytes.specs.Magic.{magic}
 use Rattle.cf_walk.specs.declared.cause.RecordCause.TheVariants.{Cut, TooLong}
-use Rattle.cf_walk.specs.Records.{magic, record_with, max_record, cut_off, is_magic, is_short, magic_at, length_at, head_at, text_at, record_at}
+use Rattle.cf_walk.specs.Records.{record_with, max_record, cut_off, is_magic, is_short, magic_at, length_at, head_at, text_at, record_at}
 
 magic_again : (more : List ℕ) → magic_at (magic ++ more) ≡ Ok (magic, more)
 unfolding magic_at

@@ -7,12 +7,13 @@ use Rattle.std.proofs.lemmas.Bool.{cases_lt}
 use Rattle.cf_bytes.specs.declared.cut.CutFault.{CutFault}
 use Rattle.cf_bytes.specs.Cut.{Read, bytes_at, number_at, ◌>>=◌}
 use Rattle.cf_bytes.proofs.Stable.{IsStable, bytes_stable, number_stable}
+use Rattle.cf_bytes.specs.Magic.{magic}
 use Rattle.cf_block.specs.declared.tx.Block.{Block}
 use Rattle.cf_block.specs.Stored.{stored_block_at}
 use Rattle.cf_walk.specs.declared.cause.RecordCause.{RecordCause}
 use Rattle.cf_walk.specs.declared.cause.RecordCause.TheVariants.{Cut, Magic, TooLong}
 use Rattle.cf_walk.specs.declared.judge.Judge.{Judge}
-use Rattle.cf_walk.specs.Records.{Taken, max_record, cut_off, is_magic, is_short, magic, magic_at, length_at, head_at, text_at, record_at}
+use Rattle.cf_walk.specs.Records.{Taken, max_record, cut_off, is_magic, is_short, magic_at, length_at, head_at, text_at, record_at}
 use Rattle.cf_walk.specs.Files.{in_block, block_here}
 use Rattle.cf_walk.specs.Judging.{Firm, IsFirm, cause_by, block_unless, next_by}
 

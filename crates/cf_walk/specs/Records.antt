@@ -5,15 +5,12 @@ use Rattle.std.specs.Int.{w32, to_le_bytes}
 use Rattle.std.specs.List.{flat_map}
 use Rattle.cf_bytes.specs.Cut.{Read, bytes_at, number_at, ◌>>=◌}
 use Rattle.cf_bytes.specs.declared.cut.CutFault.{CutFault}
+use Rattle.cf_bytes.specs.Magic.{magic}
 use Rattle.cf_block.specs.declared.tx.Block.{Block}
 use Rattle.cf_block.specs.Tx.{block_spelling}
 use Rattle.cf_block.specs.Stored.{IsStored}
 use Rattle.cf_walk.specs.declared.cause.RecordCause.{RecordCause}
 use Rattle.cf_walk.specs.declared.cause.RecordCause.TheVariants.{Cut, Magic, TooLong}
-
--- regtest's magic
-abbrev pub magic : List ℕ
-magic = 0xfa ∷ 0xbf ∷ 0xb5 ∷ 0xda ∷ []
 
 -- a record with these bytes for its block
 abbrev pub record_with : List ℕ → List ℕ
