@@ -15,7 +15,7 @@ ghost use Rattle.cf_hub.specs.Kept.{no_script};
 ghost use Rattle.cf_hub.specs.Finish.{whose, begun, numbers_of, read_numbers, Fronts, pulse_in};
 ghost use Rattle.cf_hub.specs.Gives.{delivery_of, given_of, IsProper, LogGives, IsFront};
 ghost use Rattle.cf_hub.specs.Lines.{Down, IsTickers, Ring, Up, Waits};
-ghost use Rattle.cf_hub.specs.Writers.{faults_in, texts, Adds, AreOpen, AreShut, Opens, Sends, Shuts};
+ghost use Rattle.cf_hub.specs.Writers.{texts, Adds, AreOpen, AreShut, Opens, Sends, Shuts};
 ghost use Rattle.cf_hub.specs.Shown.{Shows, ShowsTicks};
 ghost use Rattle.cf_hub.specs.Threads.{HandsOver, HasOpened, MayHandOver, MayMiss, Moves, Takes};
 ghost use Rattle.cf_outside.specs.{is_last, is_open, Reads};
@@ -155,7 +155,8 @@ fn hand_over<P: Pulse, R: Wait + Drop + Copy>(
 }
 
 impl<D: Dialer, P: Pulse, R: Wait + Threads + Copy + Drop> Hub<D, P, R> {
-    ghost use Rattle.cf_hub.specs.Stays.{KeepsOwn, KeepsThreads, KeepsEnds, missed_of};
+    ghost use Rattle.cf_hub.specs.Stays.{missed_of, OnlyBegins, OnlyJoins, OnlyNotes, OnlyOpens, OnlyPasses, OnlyShuts};
+    ghost use Rattle.cf_hub.specs.Stays.{OnlyStarts, OnlyTakes, OnlyWrites, PassesOver};
 
     /// A hub that has dialled nobody. `readers` and `tickers` are the threads that wait for its tasks.
     pub fn new(
@@ -256,13 +257,7 @@ impl<D: Dialer, P: Pulse, R: Wait + Threads + Copy + Drop> Hub<D, P, R> {
     // Hands the pulse over to a thread, unless that was done. False where none takes it.
     fn starts_ticker(&mut self) -> bool
         requires { self.old.joined ≡ false }
-        ensures book { self.new.book ≡ self.old.book }
-        ensures seat { view self.new.queue.seat ≡ view self.old.queue.seat }
-        ensures own { KeepsOwn self.old self.new }
-        ensures reading { self.new.reading ≡ self.old.reading }
-        ensures ends { KeepsEnds self.old self.new }
-        ensures writers { self.new.writers ≡ self.old.writers }
-        ensures readers { self.new.readers ≡ self.old.readers }
+        ensures stays { OnlyStarts self.old self.new }
         ensures tickers { HandsOver result self.old.clock self.new.clock self.old.tickers self.new.tickers }
         ensures pulse { Moves (pulse_in (λ c. c.pulse) self.old.clock) (pulse_in (λ c. c.pulse) self.new.clock)
             (pulse_in (λ t. t.pulse) self.old.ticking) (pulse_in (λ t. t.pulse) self.new.ticking) }
@@ -278,13 +273,8 @@ impl<D: Dialer, P: Pulse, R: Wait + Threads + Copy + Drop> Hub<D, P, R> {
     // Takes the room for one entry more.
     fn make_room(&mut self) -> Result<(), NoMemory>
         ensures told { told_of self.new.book ≡ told_of self.old.book }
-        ensures keeps { keeps_of self.new.book ≡ keeps_of self.old.book }
+        ensures stays { OnlyNotes self.old self.new }
         ensures ready { OnOk result (IsReady self.new.book) }
-        ensures seat { view self.new.queue.seat ≡ view self.old.queue.seat }
-        ensures own { KeepsOwn self.old self.new }
-        ensures joined { self.new.joined ≡ self.old.joined }
-        ensures writers { self.new.writers ≡ self.old.writers }
-        ensures threads { KeepsThreads self.old self.new }
     {
         self.book.make_room()
     }
@@ -299,11 +289,7 @@ impl<D: Dialer, P: Pulse, R: Wait + Threads + Copy + Drop> Hub<D, P, R> {
 
     // Opens a connection by its name.
     fn open(&mut self, name: &str) -> Result<(D::Read, D::Write), Failed>
-        ensures book { self.new.book ≡ self.old.book }
-        ensures missed { self.new.missed ≡ self.old.missed }
-        ensures joined { self.new.joined ≡ self.old.joined }
-        ensures writers { self.new.writers ≡ self.old.writers }
-        ensures threads { KeepsThreads self.old self.new }
+        ensures stays { OnlyOpens self.old self.new }
         ensures new { IfOk result (λ c. (D.Read.ended c.0 ≡ false) × (D.Read.faults c.0 ≡ 0) × (D.Write.faults c.1 ≡ 0)
             × (D.Write.was_shut c.1 ≡ false)) }
         ensures kept { OnOk result (D.faults self.new.dialer ≡ D.faults self.old.dialer) }
@@ -317,12 +303,8 @@ impl<D: Dialer, P: Pulse, R: Wait + Threads + Copy + Drop> Hub<D, P, R> {
 
     // One more that came too late, or found no thread.
     fn misses(&mut self)
-        ensures book { self.new.book ≡ self.old.book }
-        ensures seat { view self.new.queue.seat ≡ view self.old.queue.seat }
-        ensures dialer { self.new.dialer ≡ self.old.dialer }
-        ensures ends { KeepsEnds self.old self.new }
+        ensures stays { OnlyWrites self.old self.new }
         ensures writers { self.new.writers ≡ self.old.writers }
-        ensures threads { KeepsThreads self.old self.new }
         ensures missed { HasRisen self.old.missed self.new.missed }
         ensures later { self.old.missed ≤ self.new.missed }
     {
@@ -334,11 +316,8 @@ impl<D: Dialer, P: Pulse, R: Wait + Threads + Copy + Drop> Hub<D, P, R> {
         requires ready { IsReady self.old.book }
         requires few { self.old.book.dials < 8 }
         requires next { p.0 ≡ self.old.book.dials + 1 }
-        ensures told { told_of self.new.book ≡ tell (NotDialled p name) (told_of self.old.book) }
-        ensures keeps { keeps_of self.new.book ≡ keeps_of self.old.book }
-        ensures writers { self.new.writers.items ≡ self.old.writers.items ++ None ∷ [] }
-        ensures own { KeepsOwn self.old self.new }
-        ensures threads { KeepsThreads self.old self.new }
+        ensures over { PassesOver p name self.old self.new }
+        ensures missed { self.new.missed ≡ self.old.missed }
     {
         let sender = self.spare.pop().unwrap();
         self.queue.take(sender);
@@ -351,11 +330,7 @@ impl<D: Dialer, P: Pulse, R: Wait + Threads + Copy + Drop> Hub<D, P, R> {
         requires ready { IsReady self.old.book }
         requires few { self.old.book.dials < 8 }
         requires next { p.0 ≡ self.old.book.dials + 1 }
-        ensures told { told_of self.new.book ≡ tell (NotDialled p name) (told_of self.old.book) }
-        ensures keeps { keeps_of self.new.book ≡ keeps_of self.old.book }
-        ensures writers { self.new.writers.items ≡ self.old.writers.items ++ None ∷ [] }
-        ensures dialer { self.new.dialer ≡ self.old.dialer }
-        ensures threads { KeepsThreads self.old self.new }
+        ensures over { PassesOver p name self.old self.new }
         ensures missed { HasRisen self.old.missed self.new.missed }
         ensures later { self.old.missed ≤ self.new.missed }
     {
@@ -379,7 +354,7 @@ impl<D: Dialer, P: Pulse, R: Wait + Threads + Copy + Drop> Hub<D, P, R> {
         ensures dialled { IfOk result
             (λ q. (q ≡ p) × (told_of self.new.book ≡ tell (Dialled p name) (told_of self.old.book))) }
         ensures not_dialled { OnErr result (told_of self.new.book ≡ tell (NotDialled p name) (told_of self.old.book)) }
-        ensures keeps { keeps_of self.new.book ≡ keeps_of self.old.book }
+        ensures stays { OnlyBegins self.old self.new }
         ensures task { OnOk result
             (map begun self.new.reading.items ≡ map begun self.old.reading.items ++ (p.0, source) ∷ []) }
         ensures no_task { OnErr result (self.new.reading ≡ self.old.reading) }
@@ -389,9 +364,6 @@ impl<D: Dialer, P: Pulse, R: Wait + Threads + Copy + Drop> Hub<D, P, R> {
         ensures err { OnErr result (HasRisen self.old.missed self.new.missed
             × (self.old.missed ≤ self.new.missed) × (self.new.writers.items ≡ self.old.writers.items ++ None ∷ [])
             × HasFailed self.old.readers self.new.readers) }
-        ensures dialer { self.new.dialer ≡ self.old.dialer }
-        ensures tickers { (self.new.tickers ≡ self.old.tickers) × (self.new.clock ≡ self.old.clock)
-            × (self.new.ticking ≡ self.old.ticking) }
     {
         let sender = self.spare.pop().unwrap();
         let reader = Reader {
@@ -418,11 +390,7 @@ impl<D: Dialer, P: Pulse, R: Wait + Threads + Copy + Drop> Hub<D, P, R> {
 
     // Writes bytes to a peer.
     fn put_out(&mut self, p: PeerNo, bytes: &[u8]) -> Result<(), Failed>
-        ensures book { self.new.book ≡ self.old.book }
-        ensures dialer { self.new.dialer ≡ self.old.dialer }
-        ensures joined { self.new.joined ≡ self.old.joined }
-        ensures seat { view self.new.queue.seat ≡ view self.old.queue.seat }
-        ensures threads { KeepsThreads self.old self.new }
+        ensures stays { OnlyWrites self.old self.new }
         ensures missed { slice_index_or (connections self.old.writers.items) p.0 false ≡ true
             → self.new.missed ≡ self.old.missed }
         ensures ok { OnOk result ((self.new.missed ≡ self.old.missed)
@@ -444,15 +412,8 @@ impl<D: Dialer, P: Pulse, R: Wait + Threads + Copy + Drop> Hub<D, P, R> {
     // Shuts the connection to a peer that was noted as closed; once the hub is finished, to any.
     fn shut(&mut self, p: PeerNo)
         requires { self.old.book.finished ≡ false → slice_index_or self.old.book.closed p.0 false ≡ true }
-        ensures book { self.new.book ≡ self.old.book }
-        ensures own { KeepsOwn self.old self.new }
-        ensures ends { KeepsEnds self.old self.new }
-        ensures seat { view self.new.queue.seat ≡ view self.old.queue.seat }
+        ensures stays { OnlyShuts D.Write.written D.Write.faults self.old self.new }
         ensures shut { Shuts D.Write.written D.Write.was_shut p.0 self.old.writers.items self.new.writers.items }
-        ensures threads { KeepsThreads self.old self.new }
-        ensures written { texts D.Write.written self.new.writers.items ≡ texts D.Write.written self.old.writers.items }
-        ensures faults { faults_in D.Write.faults self.new.writers.items
-            ≡ faults_in D.Write.faults self.old.writers.items }
     {
         shut_at(&mut self.writers, p);
     }
@@ -461,14 +422,7 @@ impl<D: Dialer, P: Pulse, R: Wait + Threads + Copy + Drop> Hub<D, P, R> {
     fn shut_all(&mut self)
         requires { self.old.book.finished ≡ true }
         ensures shut { AreShut D.Write.was_shut self.new.writers.items }
-        ensures written { texts D.Write.written self.new.writers.items ≡ texts D.Write.written self.old.writers.items }
-        ensures book { self.new.book ≡ self.old.book }
-        ensures own { KeepsOwn self.old self.new }
-        ensures reading { self.new.reading ≡ self.old.reading }
-        ensures ends { KeepsEnds self.old self.new }
-        ensures ticking { self.new.ticking ≡ self.old.ticking }
-        ensures faults { faults_in D.Write.faults self.new.writers.items
-            ≡ faults_in D.Write.faults self.old.writers.items }
+        ensures stays { OnlyShuts D.Write.written D.Write.faults self.old self.new }
     {
         for p in 0..9u32 {
             self.shut(PeerNo(p));
@@ -479,11 +433,7 @@ impl<D: Dialer, P: Pulse, R: Wait + Threads + Copy + Drop> Hub<D, P, R> {
     fn pass_one(&mut self)
         requires finished { self.old.book.finished ≡ true }
         requires joined { self.old.joined ≡ false }
-        ensures book { self.new.book ≡ self.old.book }
-        ensures own { KeepsOwn self.old self.new }
-        ensures ends { KeepsEnds self.old self.new }
-        ensures writers { self.new.writers ≡ self.old.writers }
-        ensures threads { KeepsThreads self.old self.new }
+        ensures stays { OnlyPasses self.old self.new }
     {
         let _passed = receive(&self.rt, &mut self.queue, &mut self.gone);
     }
@@ -505,11 +455,7 @@ impl<D: Dialer, P: Pulse, R: Wait + Threads + Copy + Drop> Hub<D, P, R> {
     // Receives until each last entry has come.
     fn drain(&mut self)
         requires finished { self.old.book.finished ≡ true }
-        ensures book { self.new.book ≡ self.old.book }
-        ensures own { KeepsOwn self.old self.new }
-        ensures ends { KeepsEnds self.old self.new }
-        ensures writers { self.new.writers ≡ self.old.writers }
-        ensures threads { KeepsThreads self.old self.new }
+        ensures stays { OnlyPasses self.old self.new }
         ensures ended { HaveEnded (connections self.new.writers.items) (view self.new.queue.seat).got }
     {
         if self.joined {
@@ -530,9 +476,7 @@ impl<D: Dialer, P: Pulse, R: Wait + Threads + Copy + Drop> Hub<D, P, R> {
         requires finished { self.old.book.finished ≡ true }
         requires joined { self.old.joined ≡ false }
         requires ended { HaveEnded (connections self.old.writers.items) (view self.old.queue.seat).got }
-        ensures book { self.new.book ≡ self.old.book }
-        ensures own { KeepsOwn self.old self.new }
-        ensures writers { self.new.writers ≡ self.old.writers }
+        ensures stays { OnlyJoins self.old self.new }
         ensures joined { self.new.joined ≡ true }
         ensures whose { map whose self.new.done.items ≡ map begun self.old.reading.items }
         ensures rests { pulse_in (λ b. b.before) self.new.rested ≡ pulse_in (λ t. t.pulse) self.old.ticking }
@@ -551,15 +495,12 @@ impl<D: Dialer, P: Pulse, R: Wait + Threads + Copy + Drop> Hub<D, P, R> {
     fn take_one(&mut self) -> Result<Option<Delivery>, NoMemory>
         requires ready { IsReady self.old.book }
         requires running { self.old.book.finished ≡ false }
-        ensures own { KeepsOwn self.old self.new }
-        ensures writers { self.new.writers ≡ self.old.writers }
-        ensures threads { KeepsThreads self.old self.new }
+        ensures stays { OnlyTakes self.old self.new }
         ensures some { IfOk result (λ o. IfSome o (λ d. (told_of self.new.book ≡ tell (Took d) (told_of self.old.book))
             × (given_of (view self.new.queue.seat).got ≡ given_of (view self.old.queue.seat).got ++ d ∷ []))) }
         ensures none { IfOk result (λ o. IfNone o ((self.new.book ≡ self.old.book)
             × (given_of (view self.new.queue.seat).got ≡ given_of (view self.old.queue.seat).got))) }
         ensures err { OnErr result (self.new.book ≡ self.old.book) }
-        ensures keeps { keeps_of self.new.book ≡ keeps_of self.old.book }
         ensures real { IfOk result (λ o. IfSome o (λ d. d ≢ Delivery.Ended)) }
         ensures proper { IfOk result (λ o. IfSome o (λ d. IsProper d)) }
     {
@@ -579,11 +520,7 @@ impl<D: Dialer, P: Pulse, R: Wait + Threads + Copy + Drop> Hub<D, P, R> {
     fn note_end(&mut self)
         requires ready { IsReady self.old.book }
         ensures told { told_of self.new.book ≡ tell (Took Ended) (told_of self.old.book) }
-        ensures keeps { keeps_of self.new.book ≡ keeps_of self.old.book }
-        ensures seat { view self.new.queue.seat ≡ view self.old.queue.seat }
-        ensures own { KeepsOwn self.old self.new }
-        ensures writers { self.new.writers ≡ self.old.writers }
-        ensures threads { KeepsThreads self.old self.new }
+        ensures stays { OnlyNotes self.old self.new }
     {
         self.book.note_end();
     }

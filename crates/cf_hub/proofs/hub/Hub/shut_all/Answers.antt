@@ -6,13 +6,16 @@ pub loop-p-preserved : goal.loop-p-preserved
 loop-p-preserved g c =
     let i = c.loop-p.invariant in
     record {
-      book = c.shut.ensures.book ∙ i.book;
-      own = (cc, cc);
-      ends = (cc, cc, cc);
-      threads = (cc, cc, cc, cc, cc);
+      stays = record {
+        book = c.shut.ensures.stays.book ∙ i.stays.book;
+        seat = c.shut.ensures.stays.seat ∙ i.stays.seat;
+        own = (cc, cc);
+        threads = (cc, cc, cc, cc, cc);
+        ends = (cc, cc, cc);
+        written = c.shut.ensures.stays.written ∙ i.stays.written;
+        faults = c.shut.ensures.stays.faults ∙ i.stays.faults;
+      };
       shut = one_shut g.D.Write.Sink.written g.D.Write.Writer.was_shut c.loop-p.p c.loop-p.self.writers.items c.shut.new.self.writers.items c.shut.ensures.shut i.shut;
-      written = c.shut.ensures.written ∙ i.written;
-      faults = c.shut.ensures.faults ∙ i.faults;
     }
 
 pub returns-clause-shut : goal.returns-clause-shut

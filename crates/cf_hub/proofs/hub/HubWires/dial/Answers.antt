@@ -5,16 +5,16 @@ use Rattle.cf_hub.proofs.hub.HubWires.dial.Goals as goal
 
 pub returns-in-Err-begin-clause-opened : goal.returns-in-Err-begin-clause-opened
 returns-in-Err-begin-clause-opened g c =
-    let before = c.starts_ticker.ensures.own.1 ∙ c.make_room.ensures.own.1 in
-    let tasks = c.in-Err-begin.ensures.no_task ∙ c.open.ensures.threads.4 ∙ c.starts_ticker.ensures.reading ∙ c.make_room.ensures.threads.4 in (
+    let before = c.starts_ticker.ensures.stays.own.1 ∙ c.make_room.ensures.stays.own.1 in
+    let tasks = c.in-Err-begin.ensures.no_task ∙ c.open.ensures.stays.threads.4 ∙ c.starts_ticker.ensures.stays.reading ∙ c.make_room.ensures.stays.threads.4 in (
       ap (λ v. map begun v.items) tasks,
-      inr (c.open.result, same_dial (λ d x e. g.D.Dialer.dials d c.args.name.now x e) _ _ _ _ _ before c.begin.ensures.dialer c.open.ensures.exact),
+      inr (c.open.result, same_dial (λ d x e. g.D.Dialer.dials d c.args.name.now x e) _ _ _ _ _ before c.begin.ensures.stays.dialer c.open.ensures.exact),
     )
 
 pub returns-in-Err-clause-opened : goal.returns-in-Err-clause-opened
 returns-in-Err-clause-opened g c =
-    let before = c.starts_ticker.ensures.own.1 ∙ c.make_room.ensures.own.1 in
-    let tasks = c.skip.ensures.threads.4 ∙ c.open.ensures.threads.4 ∙ c.starts_ticker.ensures.reading ∙ c.make_room.ensures.threads.4 in (
+    let before = c.starts_ticker.ensures.stays.own.1 ∙ c.make_room.ensures.stays.own.1 in
+    let tasks = c.skip.ensures.over.threads.4 ∙ c.open.ensures.stays.threads.4 ∙ c.starts_ticker.ensures.stays.reading ∙ c.make_room.ensures.stays.threads.4 in (
       ap (λ v. map begun v.items) tasks,
-      inr (c.open.result, same_dial (λ d x e. g.D.Dialer.dials d c.args.name.now x e) _ _ _ _ _ before c.skip.ensures.own.1 c.open.ensures.exact),
+      inr (c.open.result, same_dial (λ d x e. g.D.Dialer.dials d c.args.name.now x e) _ _ _ _ _ before c.skip.ensures.over.dialer c.open.ensures.exact),
     )

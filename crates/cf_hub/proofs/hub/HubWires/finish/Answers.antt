@@ -15,5 +15,5 @@ invariant_of-self g c =
 
 pub returns-clause-shut : goal.returns-clause-shut
 returns-clause-shut g c =
-    let same : c.join_all.new.self.writers.items ≡ c.shut_all.new.self.writers.items = ap (λ v. v.items) (c.join_all.ensures.writers ∙ c.drain.ensures.writers) in
+    let same : c.join_all.new.self.writers.items ≡ c.shut_all.new.self.writers.items = ap (λ v. v.items) (c.join_all.ensures.stays.writers ∙ c.drain.ensures.stays.writers) in
     still_shut g.D.Write.Writer.was_shut c.shut_all.new.self.writers.items c.join_all.new.self.writers.items same c.shut_all.ensures.shut
