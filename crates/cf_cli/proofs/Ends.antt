@@ -1,87 +1,153 @@
 -- What is told of how each peer stands.
-use Rattle.std.proofs.Common.{◌≡◌, ℕ, Bool, false, List, Option, Some, None, inl, inr, refl, sym, subst}
-use Rattle.std.specs.Prelude.{IfSome}
+use Rattle.std.proofs.Common.{◌≡◌, ◌⊎◌, ℕ, Bool, true, false, List, map, length, Option, Some, None, Result, Ok, inl, inr, refl, sym, ◌∙◌, ap, subst}
+use Rattle.std.specs.Prelude.{IfSome, String}
+use Rattle.std.specs.Global.{Global}
+use Rattle.std.specs.FinMap as finite
+use Rattle.std.proofs.lemmas.List.{length-map}
 use Rattle.std.proofs.lemmas.Bool.{both_ways}
+use Rattle.cf_bytes.specs.Files.{Named}
 use Rattle.cf_headers.specs.Store.{Chains}
 use Rattle.cf_place.specs.declared.place.PeerEnd.{PeerEnd}
 use Rattle.cf_run.specs.declared.outcome.Outcome.{Outcome}
-use Rattle.cf_run.specs.Whole.{IsOutcome}
+use Rattle.cf_run.specs.Names.{names_in}
+use Rattle.cf_run.specs.Whole.{EndsWithin, IsOutcome}
 use Rattle.cf_sync.specs.Fetching.{Rule}
-use Rattle.cf_wires.specs.Log.{Log}
+use Rattle.cf_wires.specs.declared.event.Dial.{Dial}
+use Rattle.cf_wires.specs.Log.{Log, Told}
+use Rattle.cf_wires.specs.Wires.{Script}
+use Rattle.cf_input.specs.SessionFile.{session_of}
+use Rattle.cf_input.specs.declared.session.SessionFault.{SessionFault}
 use Rattle.cf_input.specs.declared.words.Command.{Command}
 use Rattle.cf_input.specs.declared.words.Command.TheVariants.{Replay, Sync, Follow, Scan, Filter, Address, Prove, Check, Serve, Make, Demo}
 use Rattle.cf_answers.specs.declared.status.Status.{Status}
 use Rattle.cf_place.specs.Standing.{EndsTell}
 use Rattle.cf_loading.specs.Verdicts.{IsOfFile}
-use Rattle.cf_cli.proofs.Plays.{no_run}
+use Rattle.cf_cli.proofs.Plays.{all_dialled, no_run, told_so}
 use Rattle.cf_cli.proofs.Stays.{not_over}
-use Rattle.cf_cli.specs.Ends.{AreEndsOf, AreEndsOnce, AreEndsAfter, AreEndsOver, AreEnds}
+use Rattle.cf_cli.specs.Ends.{AreEndsOf, AreEndsBy, AreEndsOnce, AreEndsAfter, AreEndsOver, AreEnds, dials_in, dials_held, dials_read}
 use Rattle.cf_answers.specs.Statuses.{has_run, is_over, was_unbegun}
 
 -- they are put once a run is begun
-pub ends_put : {made : Bool} (status : Status) (recorded : Bool) (log : Option Log) (before after : List PeerEnd)
-    → was_unbegun status recorded ≡ false → AreEndsOf log after → AreEndsOnce made status recorded log before after
-ends_put status recorded log before after begun are = record {
+pub ends_put : {made : Bool} {names : ℕ} {now : Told} {before after : List PeerEnd} (status : Status) (recorded : Bool)
+    → was_unbegun status recorded ≡ false → AreEndsBy names now after → AreEndsOnce made status recorded names now before after
+ends_put status recorded begun are = record {
   told = λ is. are;
   unbegun = λ is. absurd (both_ways (was_unbegun status recorded) begun is);
   either = inr are;
 }
 
 -- they stay where no run was made
-pub ends_stay : {made : Bool} (status : Status) (recorded : Bool) (log : Option Log) (ends : List PeerEnd)
-    → made ≡ false → AreEndsOnce made status recorded log ends ends
-ends_stay {made} status recorded log ends not = record {
+pub ends_stay : {made : Bool} (status : Status) (recorded : Bool) (names : ℕ) (now : Told) (ends : List PeerEnd)
+    → made ≡ false → AreEndsOnce made status recorded names now ends ends
+ends_stay {made} status recorded names now ends not = record {
   told = λ is. absurd (both_ways made not is);
   unbegun = λ is. refl;
   either = inl refl;
 }
 
 -- nor where a file could not be read
-pub ends_early : (status : Status) (recorded : Bool) (log : Option Log) (ends : List PeerEnd) → IsOfFile status → AreEndsAfter status recorded log ends ends
-ends_early status recorded log ends is = ends_stay status recorded log ends (no_run status is)
+pub ends_early : (status : Status) (recorded : Bool) (names : ℕ) (now : Told) (ends : List PeerEnd) → IsOfFile status
+    → AreEndsAfter status recorded names now ends ends
+ends_early status recorded names now ends is = ends_stay status recorded names now ends (no_run status is)
 
-pub over_early : (status : Status) (recorded : Bool) (log : Option Log) (ends : List PeerEnd) → IsOfFile status → AreEndsOver status recorded log ends ends
-over_early status recorded log ends is = ends_stay status recorded log ends (not_over status (no_run status is))
+pub over_early : (status : Status) (recorded : Bool) (names : ℕ) (now : Told) (ends : List PeerEnd) → IsOfFile status
+    → AreEndsOver status recorded names now ends ends
+over_early status recorded names now ends is = ends_stay status recorded names now ends (not_over status (no_run status is))
 
 -- a copy of them
-pub copied : (log : Option Log) (counts : Chains → ℕ → Type 0) (rule : Rule) (names : List (List ℕ)) (o : Outcome) (put : List PeerEnd) → put ≡ o.ends.items
-    → IfSome log (IsOutcome counts rule names o) → AreEndsOf log put
-copied None counts rule names o put e is = tt
-copied (Some l) counts rule names o put e is = subst (λ (xs : List PeerEnd). EndsTell xs l) (sym e) is.ends
+copied_of : (log : Option Log) (counts : Chains → ℕ → Type 0) (rule : Rule) (names : List (List ℕ)) (o : Outcome) (put : List PeerEnd)
+    → put ≡ o.ends.items → IfSome log (IsOutcome counts rule names o) → AreEndsOf log put
+copied_of None counts rule names o put e is = tt
+copied_of (Some l) counts rule names o put e is = subst (λ (xs : List PeerEnd). EndsTell xs l) (sym e) is.ends
+
+-- which are those of a run that was made
+pub copied : (now : Told) (counts : Chains → ℕ → Type 0) (rule : Rule) (names : List (String Global)) {turns : ℕ} (o : Outcome) (put : List PeerEnd)
+    → put ≡ o.ends.items → IfSome now.log (IsOutcome counts rule (names_in names) o) → now.finished ≡ true
+    → EndsWithin o.end (length names) turns now.tally → AreEndsBy (length (names_in names)) now put
+copied now counts rule names o put e is finished within = record {
+  whole = record { dialled = all_dialled names within; finished = finished };
+  tell = copied_of now.log counts rule (names_in names) o put e is;
+}
 
 -- once it was begun, whatever becomes of its record
-pub over_recorded : (status : Status) (recorded : Bool) (log : Option Log) (before after : List PeerEnd) → was_unbegun status recorded ≡ false → AreEndsOver status false log before after
-    → AreEndsOver status recorded log before after
-over_recorded status recorded log before after begun are = record {
+pub over_recorded : (status : Status) (recorded : Bool) (names : ℕ) (now : Told) (before after : List PeerEnd)
+    → was_unbegun status recorded ≡ false → AreEndsOver status false names now before after
+    → AreEndsOver status recorded names now before after
+over_recorded status recorded names now before after begun are = record {
   told = are.told;
   unbegun = λ is. absurd (both_ways (was_unbegun status recorded) begun is);
   either = are.either;
 }
 
-pub over_failed : (status other : Status) (recorded : Bool) (log : Option Log) (before after : List PeerEnd) → is_over other ≡ false → was_unbegun other recorded ≡ false
-    → AreEndsOver status false log before after → AreEndsOver other recorded log before after
-over_failed status other recorded log before after not begun are = record {
+pub over_failed : (status other : Status) (recorded : Bool) (names : ℕ) (now : Told) (before after : List PeerEnd)
+    → is_over other ≡ false → was_unbegun other recorded ≡ false
+    → AreEndsOver status false names now before after → AreEndsOver other recorded names now before after
+over_failed status other recorded names now before after not begun are = record {
   told = λ is. absurd (both_ways (is_over other) not is);
   unbegun = λ is. absurd (both_ways (was_unbegun other recorded) begun is);
   either = are.either;
 }
 
+-- a session that was read has so many dials
+read_dials : (r : Result Script SessionFault) (script : Script) (dialled : ℕ) → r ≡ Ok script → dials_read r dialled ≡ length script.dials
+read_dials r script dialled e = ap (λ (x : Result Script SessionFault). dials_read x dialled) e
+
+-- and so has its file, where the files tell; else so many as were dialled
+told_dials : (o : Option Named) (name : List ℕ) (script : Script) (dialled : ℕ)
+    → IfSome o (λ m. IfSome (finite.get m name) (λ bytes. session_of bytes ≡ Ok script)) → dialled ≡ length script.dials → dials_in o name dialled ≡ length script.dials
+told_dials None name script dialled read all = all
+told_dials (Some m) name script dialled read all = held_dials (finite.get m name) read where
+  held_dials : (held : Option (List ℕ)) → IfSome held (λ bytes. session_of bytes ≡ Ok script) → dials_held held dialled ≡ length script.dials
+  held_dials None h = all
+  held_dials (Some bytes) h = read_dials (session_of bytes) script dialled h
+
+-- a run over a tape that was loaded with the session of this file
+pub ends_played : (o p : Option Named) (name : List ℕ) (status : Status) (names : List (List ℕ)) (script : Script) (now : Told)
+    (before after : List PeerEnd) → IfSome o (λ m. IfSome (finite.get m name) (λ bytes. session_of bytes ≡ Ok script)) → o ≡ p
+    → names ≡ map (λ (d : Dial). d.name) script.dials
+    → AreEndsAfter status false (length names) now before after
+    → AreEndsAfter status false (dials_in p name now.tally.dials) now before after
+ends_played o p name status names script now before after read same named are = record {
+  told = λ is. played (are.told is);
+  unbegun = are.unbegun;
+  either = either_played are.either;
+} where
+  many : length names ≡ length script.dials
+  many = ap length named ∙ length-map script.dials (λ (d : Dial). d.name)
+
+  played : AreEndsBy (length names) now after → AreEndsBy (dials_in p name now.tally.dials) now after
+  played by = record {
+    whole = record {
+      dialled = by.whole.dialled ∙ many
+          ∙ sym (told_dials p name script now.tally.dials (told_so o p name script same read) (by.whole.dialled ∙ many));
+      finished = by.whole.finished;
+    };
+    tell = by.tell;
+  }
+
+  either_played : (after ≡ before) ⊎ AreEndsBy (length names) now after
+      → (after ≡ before) ⊎ AreEndsBy (dials_in p name now.tally.dials) now after
+  either_played (inl stay) = inl stay
+  either_played (inr by) = inr (played by)
+
 -- no command changes them where no run was made
-pub ends_untold : (found : Option Command) (status : Status) (wires : Option Log) (tape : Log) (ends : List PeerEnd) → has_run status ≡ false → AreEnds found status wires tape ends ends
-ends_untold None status wires tape ends not = refl
-ends_untold (Some (Replay follow trace watch session)) status wires tape ends not = ends_stay status false (Some tape) ends not
-ends_untold (Some (Sync turns workers file watch peers)) status wires tape ends not = ends_stay status _ wires ends not
-ends_untold (Some (Follow turns workers file watch peers)) status wires tape ends not = ends_stay status _ wires ends (not_over status not)
-ends_untold (Some (Scan file watch)) status wires tape ends not = refl
-ends_untold (Some (Filter file height)) status wires tape ends not = refl
-ends_untold (Some (Address text)) status wires tape ends not = refl
-ends_untold (Some (Prove file txid)) status wires tape ends not = refl
-ends_untold (Some (Check file)) status wires tape ends not = refl
-ends_untold (Some (Serve grow count file address)) status wires tape ends not = refl
-ends_untold (Some (Make witness seed blocks file)) status wires tape ends not = refl
-ends_untold (Some (Demo seed blocks)) status wires tape ends not = refl
+pub ends_untold : (found : Option Command) (status : Status) (files : Option Named) (wires tape : Told) (ends : List PeerEnd)
+    → has_run status ≡ false → AreEnds found status files wires tape ends ends
+ends_untold None status files wires tape ends not = refl
+ends_untold (Some (Replay follow trace watch session)) status files wires tape ends not = ends_stay status false _ tape ends not
+ends_untold (Some (Sync turns workers file watch peers)) status files wires tape ends not = ends_stay status _ _ wires ends not
+ends_untold (Some (Follow turns workers file watch peers)) status files wires tape ends not = ends_stay status _ _ wires ends (not_over status not)
+ends_untold (Some (Scan file watch)) status files wires tape ends not = refl
+ends_untold (Some (Filter file height)) status files wires tape ends not = refl
+ends_untold (Some (Address text)) status files wires tape ends not = refl
+ends_untold (Some (Prove file txid)) status files wires tape ends not = refl
+ends_untold (Some (Check file)) status files wires tape ends not = refl
+ends_untold (Some (Serve grow count file address)) status files wires tape ends not = refl
+ends_untold (Some (Make witness seed blocks file)) status files wires tape ends not = refl
+ends_untold (Some (Demo seed blocks)) status files wires tape ends not = refl
 
 -- what a command says of them, told of its words
-pub ends_so : (found : Option Command) (command : Command) (status : Status) (wires : Option Log) (tape : Log) (before after : List PeerEnd) → found ≡ Some command
-    → AreEnds (Some command) status wires tape before after → AreEnds found status wires tape before after
-ends_so found command status wires tape before after is = subst (λ (o : Option Command). AreEnds o status wires tape before after) (sym is)
+pub ends_so : (found : Option Command) (command : Command) (status : Status) (files : Option Named) (wires tape : Told) (before after : List PeerEnd)
+    → found ≡ Some command → AreEnds (Some command) status files wires tape before after
+    → AreEnds found status files wires tape before after
+ends_so found command status files wires tape before after is = subst (λ (o : Option Command). AreEnds o status files wires tape before after) (sym is)

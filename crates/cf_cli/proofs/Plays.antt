@@ -134,7 +134,7 @@ plays_by : (status : Status) (r : Result Script SessionFault) (script : Script) 
 plays_by status r script log e plays = subst (λ (x : Result Script SessionFault). PlaysSession status x log) (sym e) plays
 
 -- what is told stays the same file
-told_so : (o p : Option Named) (name : List ℕ) (script : Script) → o ≡ p → IfSome o (λ m. IfSome (finite.get m name) (λ bytes. session_of bytes ≡ Ok script))
+pub told_so : (o p : Option Named) (name : List ℕ) (script : Script) → o ≡ p → IfSome o (λ m. IfSome (finite.get m name) (λ bytes. session_of bytes ≡ Ok script))
     → IfSome p (λ m. IfSome (finite.get m name) (λ bytes. session_of bytes ≡ Ok script))
 told_so o p name script same h = subst (λ (x : Option Named). IfSome x (λ m. IfSome (finite.get m name) (λ bytes. session_of bytes ≡ Ok script))) same h
 

@@ -50,7 +50,8 @@ fn follow_live<W: Wires, H: HeaderStore + Drop, M: Matcher + Drop, O: Sink>(
         (names_in names.now) turns wires.old wires.new }
     ensures counts { CountsOut result (O.faults out.old) (O.faults out.new) }
     ensures unrefused { was_refused result ≡ false }
-    ensures ends { AreEndsOver result false (W.told wires.new).log ends.old.items ends.new.items }
+    ensures ends { AreEndsOver result false (length (names_in names.now)) (W.told wires.new)
+        ends.old.items ends.new.items }
 {
     let mut texts = Live::new(out);
     match follow_over(
@@ -106,7 +107,8 @@ pub(crate) fn follow_and_record<F: Files, W: Wires, M: Matcher + Drop, O: Sink>(
     ensures counts { CountsOn (is_some log_file.now) result (O.faults out.old) (O.faults out.new) }
     ensures begun { was_unbegun result (is_some log_file.now) ≡ false }
     ensures written { IsAtMostWritten F.writes log_file.now files.old files.new }
-    ensures ends { AreEndsOver result (is_some log_file.now) (W.told wires.new).log ends.old.items ends.new.items }
+    ensures ends { AreEndsOver result (is_some log_file.now) (length (names_in names.now)) (W.told wires.new)
+        ends.old.items ends.new.items }
 {
     let Ok(store) = Tree::new(alloc) else {
         return Status::NoMemory;
@@ -172,7 +174,8 @@ pub(crate) fn follow_on_tape<W: Wires, M: Matcher + Drop, O: Sink>(
     ensures counts { CountsOut result (O.faults out.old) (O.faults out.new) }
     ensures unwritten { has_run result ≡ false → O.written out.new ≡ O.written out.old }
     ensures unrefused { was_refused result ≡ false }
-    ensures ends { AreEndsAfter result false (W.told wires.new).log ends.old.items ends.new.items }
+    ensures ends { AreEndsAfter result false (length (names_in names.now)) (W.told wires.new)
+        ends.old.items ends.new.items }
 {
     let Ok(store) = Tree::new(alloc) else {
         return Status::NoMemory;

@@ -84,7 +84,8 @@ pub(crate) fn run_once<F: Files, W: Wires, M: Matcher + Drop, O: Sink>(
     ensures unwritten { has_run result ≡ false → O.written out.new ≡ O.written out.old }
     ensures begun { was_unbegun result (is_some log_file.now) ≡ false }
     ensures written { IsAtMostWritten F.writes log_file.now files.old files.new }
-    ensures ends { AreEndsAfter result (is_some log_file.now) (W.told wires.new).log ends.old.items ends.new.items }
+    ensures ends { AreEndsAfter result (is_some log_file.now) (length (names_in names.now)) (W.told wires.new)
+        ends.old.items ends.new.items }
 {
     let Ok(store) = Tree::new(alloc) else {
         return Status::NoMemory;

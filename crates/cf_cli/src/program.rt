@@ -13,7 +13,7 @@ ghost use Rattle.cf_answers.specs.{has_run, was_refused, was_unbegun};
 ghost use Rattle.cf_cli.specs.Statuses.{verdict_of};
 ghost use Rattle.cf_link.specs.{link_now};
 ghost use Rattle.cf_cli.specs.Doing.{Does, around};
-ghost use Rattle.cf_cli.specs.Ends.{AreEnds, AreEndsAfter, AreEndsOver};
+ghost use Rattle.cf_cli.specs.Ends.{AreEnds, AreEndsAfter, AreEndsOver, dials_in};
 ghost use Rattle.cf_cli.specs.Handed.{CountsOn, IsNewPlayed, IsNewTape, RunsFiles, RunsWires, UsesFiles, UsesLink, UsesOut, UsesPlayed, UsesTape, UsesWires};
 ghost use Rattle.cf_cli.specs.Following.{IsReplayedIn, KeptLive, TalliedOn};
 ghost use Rattle.cf_cli.specs.Theorem.{KeptOver, Tallied, PlaysSession, WasOver};
@@ -75,7 +75,8 @@ fn replay<F: Files, O: Sink>(
     ensures unwritten { has_run result ≡ false → O.written out.new ≡ O.written out.old }
     ensures unplayed { was_refused result ≡ true → tape.new ≡ tape.old }
     ensures asked { result ≢ Status.Usage }
-    ensures ends { AreEndsAfter result false (Some (log_of tape.new)) ends.old.items ends.new.items }
+    ensures ends { AreEndsAfter result false (dials_in (F.files files.old) session.now (told_of tape.new).tally.dials)
+        (told_of tape.new) ends.old.items ends.new.items }
 {
     let scripts = match load_watch(alloc, files, watch) {
         Ok(scripts) => scripts,
@@ -183,7 +184,8 @@ fn sync<R: Wait + Threads + Copy + Drop + Send + 'static, F: Files, W: Wires, K:
     ensures counts { CountsOut result (O.faults out.old) (O.faults out.new) }
     ensures unwritten { has_run result ≡ false → O.written out.new ≡ O.written out.old }
     ensures asked { result ≢ Status.Usage }
-    ensures ends { AreEndsAfter result (is_some log_file.now) (W.told wires.new).log ends.old.items ends.new.items }
+    ensures ends { AreEndsAfter result (is_some log_file.now) (length (names_in peers.now)) (W.told wires.new)
+        ends.old.items ends.new.items }
 {
     match set_up(rt, alloc, files, watch, workers, spawner) {
         Ok((scripts, matcher)) => run_once(
@@ -233,7 +235,8 @@ fn follow<
     ensures counts { CountsOn (is_some log_file.now) result (O.faults out.old) (O.faults out.new) }
     ensures unwritten { was_unbegun result (is_some log_file.now) ≡ true → O.written out.new ≡ O.written out.old }
     ensures asked { result ≢ Status.Usage }
-    ensures ends { AreEndsOver result (is_some log_file.now) (W.told wires.new).log ends.old.items ends.new.items }
+    ensures ends { AreEndsOver result (is_some log_file.now) (length (names_in peers.now)) (W.told wires.new)
+        ends.old.items ends.new.items }
 {
     match set_up(rt, alloc, files, watch, workers, spawner) {
         Ok((scripts, matcher)) => follow_and_record(
@@ -297,7 +300,7 @@ where
     ensures link { UsesLink L.faults (Some command) result link.old link.new }
     ensures out { UsesOut O.written O.faults (Some command) result out.old out.new }
     ensures asked { result ≢ Status.Usage }
-    ensures ends { AreEnds (Some command) result (W.told wires.new).log (log_of tape.new)
+    ensures ends { AreEnds (Some command) result (F.files files.old) (W.told wires.new) (told_of tape.new)
         ends.old.items ends.new.items }
 {
     match command {
@@ -418,7 +421,8 @@ where
 /// `LinkFault`: with any other answer their counts of faults stay.
 ///
 /// How each peer stands once `sync`, `follow` or `replay` has made its run is put into `ends`, in the order of their
-/// numbers. Where no run was begun, and with each other command, `ends` stays as it is handed in.
+/// numbers. Where no run was begun, and with each other command, `ends` stays as it is handed in. With each answer it
+/// is one of both: what was handed in, or what the log tells of a run that has dialled all peers and come to its end.
 pub fn run<
     R: Wait + Threads + Sync + Copy + Drop + Send + 'static,
     J: Joins + Copy + Drop + Send + 'static,
@@ -466,8 +470,8 @@ where
     ensures played { UsesPlayed (command_of (names_in words.now)) played.old played.new }
     ensures link { UsesLink L.faults (command_of (names_in words.now)) result link.old link.new }
     ensures out { UsesOut O.written O.faults (command_of (names_in words.now)) result out.old out.new }
-    ensures ends { AreEnds (command_of (names_in words.now)) result (W.told wires.new).log (log_of tape.new)
-        ends.old.items ends.new.items }
+    ensures ends { AreEnds (command_of (names_in words.now)) result (F.files files.old) (W.told wires.new)
+        (told_of tape.new) ends.old.items ends.new.items }
 {
     match read_words(alloc, words) {
         Ok(command) => perform(

@@ -37,7 +37,7 @@ pub returns-in_default-clause-failures : goal.returns-in_default-clause-failures
 returns-in_default-clause-failures g c = new_unfailed _ _ _ c.requires.fresh
 
 pub returns-in_default-clause-ends : goal.returns-in_default-clause-ends
-returns-in_default-clause-ends g c = ends_stay _ _ _ _ refl
+returns-in_default-clause-ends g c = ends_stay _ _ _ _ _ refl
 
 -- ---- nor in it
 
@@ -66,7 +66,7 @@ returns-in-NoMemory-clause-versions g c =
     (to_z-of_z {w = w64} {z = c.args.moment} (search rules)) c.follow_live-status.ensures.wires.versions
 
 pub returns-in-NoMemory-clause-ends : goal.returns-in-NoMemory-clause-ends
-returns-in-NoMemory-clause-ends g c = over_failed c.follow_live-status.result NoMemory _ _ _ _ refl refl c.follow_live-status.ensures.ends
+returns-in-NoMemory-clause-ends g c = over_failed c.follow_live-status.result NoMemory _ _ _ _ _ refl refl c.follow_live-status.ensures.ends
 
 -- ---- nor for the record
 
@@ -95,7 +95,7 @@ returns-in-Err-NoMemory-clause-versions g c =
     (to_z-of_z {w = w64} {z = c.args.moment} (search rules)) c.follow_live-status.ensures.wires.versions
 
 pub returns-in-Err-NoMemory-clause-ends : goal.returns-in-Err-NoMemory-clause-ends
-returns-in-Err-NoMemory-clause-ends g c = over_failed c.follow_live-status.result NoMemory _ _ _ _ refl refl c.follow_live-status.ensures.ends
+returns-in-Err-NoMemory-clause-ends g c = over_failed c.follow_live-status.result NoMemory _ _ _ _ _ refl refl c.follow_live-status.ensures.ends
 
 -- ---- the record can't be written
 
@@ -131,7 +131,7 @@ returns-clause-begun g c =
 pub returns-clause-ends : goal.returns-clause-ends
 returns-clause-ends g c =
     let files = rw c.in-Err-No.field-0-is at c.in-Err-No.ensures.files in
-    over_failed c.follow_live-status.result FileFault _ _ _ _ refl (ap not files.0) c.follow_live-status.ensures.ends
+    over_failed c.follow_live-status.result FileFault _ _ _ _ _ refl (ap not files.0) c.follow_live-status.ensures.ends
 
 -- ---- it stands, or none is asked for
 
@@ -164,4 +164,6 @@ pub returns-in-Ok-write_record-clause-begun : goal.returns-in-Ok-write_record-cl
 returns-in-Ok-write_record-clause-begun g c = begun_by c.follow_live-status.result _ c.follow_live-status.ensures.unrefused
 
 pub returns-in-Ok-write_record-clause-ends : goal.returns-in-Ok-write_record-clause-ends
-returns-in-Ok-write_record-clause-ends g c = over_recorded c.follow_live-status.result _ _ _ _ (begun_by c.follow_live-status.result _ c.follow_live-status.ensures.unrefused) c.follow_live-status.ensures.ends
+returns-in-Ok-write_record-clause-ends g c =
+    over_recorded c.follow_live-status.result _ _ _ _ _ (begun_by c.follow_live-status.result _ c.follow_live-status.ensures.unrefused)
+    c.follow_live-status.ensures.ends

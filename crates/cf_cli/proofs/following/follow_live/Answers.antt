@@ -36,8 +36,10 @@ returns-in-Ok-ends_of-clause-counts g c =
 
 pub returns-in-Ok-ends_of-clause-ends : goal.returns-in-Ok-ends_of-clause-ends
 returns-in-Ok-ends_of-clause-ends g c =
-    ends_put c.status_of.result false _ _ _ (begun_by c.status_of.result false c.status_of.ensures.unrefused)
-    (copied (g.W.Wires.told c.follow_over.new.wires).log g.H.HeaderStore.counts (following c.args.watch) (names_in c.args.names.now) c.in-Ok.outcome _ c.in-Ok-ends_of.ensures c.in-Ok.ensures.outcome)
+    ends_put c.status_of.result false (begun_by c.status_of.result false c.status_of.ensures.unrefused)
+    (copied (g.W.Wires.told c.follow_over.new.wires) g.H.HeaderStore.counts (following c.args.watch) c.args.names.now c.in-Ok.outcome _
+    c.in-Ok-ends_of.ensures c.in-Ok.ensures.outcome c.follow_over.ensures.wires.finished
+    c.in-Ok.ensures.within)
 
 -- ---- memory is wanting
 
@@ -134,10 +136,10 @@ returns-in-Err-NoMemory-clause-wires g c =
     leaves_so _ c.args.moment c.args.nonce (to_z-of_z {w = w64} {z = c.args.moment} (search rules)) c.follow_over.ensures.wires
 
 pub returns-in_default-clause-ends : goal.returns-in_default-clause-ends
-returns-in_default-clause-ends g c = ends_stay _ _ _ _ refl
+returns-in_default-clause-ends g c = ends_stay _ _ _ _ _ refl
 
 pub returns-in-Err-Failed-clause-ends : goal.returns-in-Err-Failed-clause-ends
-returns-in-Err-Failed-clause-ends g c = ends_stay _ _ _ _ refl
+returns-in-Err-Failed-clause-ends g c = ends_stay _ _ _ _ _ refl
 
 pub returns-in-Err-NoMemory-clause-ends : goal.returns-in-Err-NoMemory-clause-ends
-returns-in-Err-NoMemory-clause-ends g c = ends_stay _ _ _ _ refl
+returns-in-Err-NoMemory-clause-ends g c = ends_stay _ _ _ _ _ refl

@@ -134,25 +134,31 @@ returns-clause-versions g c =
     (to_z-of_z {w = w64} {z = c.args.moment} (search rules)) c.follow_over.ensures.wires.versions
 
 pub returns-in_default-clause-ends : goal.returns-in_default-clause-ends
-returns-in_default-clause-ends g c = ends_stay _ _ _ _ refl
+returns-in_default-clause-ends g c = ends_stay _ _ _ _ _ refl
 
 pub returns-in-Err-clause-ends : goal.returns-in-Err-clause-ends
-returns-in-Err-clause-ends g c = ends_stay _ _ _ _ refl
+returns-in-Err-clause-ends g c = ends_stay _ _ _ _ _ refl
 
 pub returns-in_default-ends_of-clause-ends : goal.returns-in_default-ends_of-clause-ends
-returns-in_default-ends_of-clause-ends g c = ends_stay _ _ _ _ refl
+returns-in_default-ends_of-clause-ends g c = ends_stay _ _ _ _ _ refl
 
 pub returns-in_default-behind_trace-clause-ends : goal.returns-in_default-behind_trace-clause-ends
 returns-in_default-behind_trace-clause-ends g c =
-    ends_put NoMemory false _ _ _ refl
-    (copied (g.W.Wires.told c.follow_over.new.wires).log CountsOnce (following c.args.watch) (names_in c.args.names.now) c.in-Ok-follow_over.outcome _ c.in-Ok-ends_of.ensures c.in-Ok-follow_over.ensures.outcome)
+    ends_put NoMemory false refl
+    (copied (g.W.Wires.told c.follow_over.new.wires) CountsOnce (following c.args.watch) c.args.names.now c.in-Ok-follow_over.outcome _
+    c.in-Ok-ends_of.ensures c.in-Ok-follow_over.ensures.outcome c.follow_over.ensures.wires.finished
+    c.in-Ok-follow_over.ensures.within)
 
 pub returns-clause-ends : goal.returns-clause-ends
 returns-clause-ends g c =
-    ends_put OutFault false _ _ _ refl
-    (copied (g.W.Wires.told c.follow_over.new.wires).log CountsOnce (following c.args.watch) (names_in c.args.names.now) c.in-Ok-follow_over.outcome _ c.in-Ok-ends_of.ensures c.in-Ok-follow_over.ensures.outcome)
+    ends_put OutFault false refl
+    (copied (g.W.Wires.told c.follow_over.new.wires) CountsOnce (following c.args.watch) c.args.names.now c.in-Ok-follow_over.outcome _
+    c.in-Ok-ends_of.ensures c.in-Ok-follow_over.ensures.outcome c.follow_over.ensures.wires.finished
+    c.in-Ok-follow_over.ensures.within)
 
 pub returns-in-Ok-put_all-clause-ends : goal.returns-in-Ok-put_all-clause-ends
 returns-in-Ok-put_all-clause-ends g c =
-    ends_put c.status_of.result false _ _ _ (run_begun c.status_of.result false c.status_of.ensures.ran)
-    (copied (g.W.Wires.told c.follow_over.new.wires).log CountsOnce (following c.args.watch) (names_in c.args.names.now) c.in-Ok-follow_over.outcome _ c.in-Ok-ends_of.ensures c.in-Ok-follow_over.ensures.outcome)
+    ends_put c.status_of.result false (run_begun c.status_of.result false c.status_of.ensures.ran)
+    (copied (g.W.Wires.told c.follow_over.new.wires) CountsOnce (following c.args.watch) c.args.names.now c.in-Ok-follow_over.outcome _
+    c.in-Ok-ends_of.ensures c.in-Ok-follow_over.ensures.outcome c.follow_over.ensures.wires.finished
+    c.in-Ok-follow_over.ensures.within)

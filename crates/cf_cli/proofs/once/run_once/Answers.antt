@@ -163,36 +163,46 @@ returns-in-Ok-put_all-clause-counts g c =
 -- ---- how its peers stand
 
 pub returns-in_default-clause-ends : goal.returns-in_default-clause-ends
-returns-in_default-clause-ends g c = ends_stay _ _ _ _ refl
+returns-in_default-clause-ends g c = ends_stay _ _ _ _ _ refl
 
 pub returns-in_default-sync_over-clause-ends : goal.returns-in_default-sync_over-clause-ends
-returns-in_default-sync_over-clause-ends g c = ends_stay _ _ _ _ refl
+returns-in_default-sync_over-clause-ends g c = ends_stay _ _ _ _ _ refl
 
 pub returns-in_default-ends_of-clause-ends : goal.returns-in_default-ends_of-clause-ends
-returns-in_default-ends_of-clause-ends g c = ends_stay _ _ _ _ refl
+returns-in_default-ends_of-clause-ends g c = ends_stay _ _ _ _ _ refl
 
 pub returns-in_default-text_of-clause-ends : goal.returns-in_default-text_of-clause-ends
 returns-in_default-text_of-clause-ends g c =
-    ends_put NoMemory (is_some c.args.log_file.now) _ _ _ refl
-    (copied (g.W.Wires.told c.sync_over.new.wires).log CountsOnce (once c.args.watch) (names_in c.args.names.now) c.in-Ok-sync_over.outcome _ c.in-Ok-ends_of.ensures c.in-Ok-sync_over.ensures.outcome)
+    ends_put NoMemory (is_some c.args.log_file.now) refl
+    (copied (g.W.Wires.told c.sync_over.new.wires) CountsOnce (once c.args.watch) c.args.names.now c.in-Ok-sync_over.outcome _
+    c.in-Ok-ends_of.ensures c.in-Ok-sync_over.ensures.outcome c.sync_over.ensures.wires.finished
+    c.in-Ok-sync_over.ensures.within)
 
 pub returns-in-Err-NoMemory-clause-ends : goal.returns-in-Err-NoMemory-clause-ends
 returns-in-Err-NoMemory-clause-ends g c =
-    ends_put NoMemory (is_some c.args.log_file.now) _ _ _ refl
-    (copied (g.W.Wires.told c.sync_over.new.wires).log CountsOnce (once c.args.watch) (names_in c.args.names.now) c.in-Ok-sync_over.outcome _ c.in-Ok-ends_of.ensures c.in-Ok-sync_over.ensures.outcome)
+    ends_put NoMemory (is_some c.args.log_file.now) refl
+    (copied (g.W.Wires.told c.sync_over.new.wires) CountsOnce (once c.args.watch) c.args.names.now c.in-Ok-sync_over.outcome _
+    c.in-Ok-ends_of.ensures c.in-Ok-sync_over.ensures.outcome c.sync_over.ensures.wires.finished
+    c.in-Ok-sync_over.ensures.within)
 
 pub returns-in-Err-clause-ends : goal.returns-in-Err-clause-ends
 returns-in-Err-clause-ends g c =
-    ends_put OutFault (is_some c.args.log_file.now) _ _ _ refl
-    (copied (g.W.Wires.told c.sync_over.new.wires).log CountsOnce (once c.args.watch) (names_in c.args.names.now) c.in-Ok-sync_over.outcome _ c.in-Ok-ends_of.ensures c.in-Ok-sync_over.ensures.outcome)
+    ends_put OutFault (is_some c.args.log_file.now) refl
+    (copied (g.W.Wires.told c.sync_over.new.wires) CountsOnce (once c.args.watch) c.args.names.now c.in-Ok-sync_over.outcome _
+    c.in-Ok-ends_of.ensures c.in-Ok-sync_over.ensures.outcome c.sync_over.ensures.wires.finished
+    c.in-Ok-sync_over.ensures.within)
 
 pub returns-in-Err-No-clause-ends : goal.returns-in-Err-No-clause-ends
 returns-in-Err-No-clause-ends g c =
     let files = rw c.in-Err-No.field-0-is at c.in-Err-No.ensures.files in
-    ends_put FileFault (is_some c.args.log_file.now) _ _ _ (ap not files.0)
-    (copied (g.W.Wires.told c.sync_over.new.wires).log CountsOnce (once c.args.watch) (names_in c.args.names.now) c.in-Ok-sync_over.outcome _ c.in-Ok-ends_of.ensures c.in-Ok-sync_over.ensures.outcome)
+    ends_put FileFault (is_some c.args.log_file.now) (ap not files.0)
+    (copied (g.W.Wires.told c.sync_over.new.wires) CountsOnce (once c.args.watch) c.args.names.now c.in-Ok-sync_over.outcome _
+    c.in-Ok-ends_of.ensures c.in-Ok-sync_over.ensures.outcome c.sync_over.ensures.wires.finished
+    c.in-Ok-sync_over.ensures.within)
 
 pub returns-in-Ok-put_all-clause-ends : goal.returns-in-Ok-put_all-clause-ends
 returns-in-Ok-put_all-clause-ends g c =
-    ends_put c.status_of.result (is_some c.args.log_file.now) _ _ _ (run_begun c.status_of.result (is_some c.args.log_file.now) c.status_of.ensures.ran)
-    (copied (g.W.Wires.told c.sync_over.new.wires).log CountsOnce (once c.args.watch) (names_in c.args.names.now) c.in-Ok-sync_over.outcome _ c.in-Ok-ends_of.ensures c.in-Ok-sync_over.ensures.outcome)
+    ends_put c.status_of.result (is_some c.args.log_file.now) (run_begun c.status_of.result (is_some c.args.log_file.now) c.status_of.ensures.ran)
+    (copied (g.W.Wires.told c.sync_over.new.wires) CountsOnce (once c.args.watch) c.args.names.now c.in-Ok-sync_over.outcome _
+    c.in-Ok-ends_of.ensures c.in-Ok-sync_over.ensures.outcome c.sync_over.ensures.wires.finished
+    c.in-Ok-sync_over.ensures.within)

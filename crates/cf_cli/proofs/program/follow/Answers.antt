@@ -46,4 +46,4 @@ pub returns-in-Ok-clause-ends : goal.returns-in-Ok-clause-ends
 returns-in-Ok-clause-ends g c = c.follow_and_record.ensures.ends
 
 pub returns-in-Err-clause-ends : goal.returns-in-Err-clause-ends
-returns-in-Err-clause-ends g c = over_early c.in-Err.status _ _ _ c.in-Err.ensures.only
+returns-in-Err-clause-ends g c = over_early c.in-Err.status _ _ _ _ c.in-Err.ensures.only

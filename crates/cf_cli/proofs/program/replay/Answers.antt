@@ -10,7 +10,7 @@ use Rattle.cf_cli.proofs.Plays.{versions_so, unplayed_words, early_plays, loaded
 use Rattle.cf_cli.proofs.Stays.{early_replayed_in, tape_watch_on}
 use Rattle.cf_cli.specs.Following.{TalliedOn}
 use Rattle.cf_cli.specs.Theorem.{Tallied}
-use Rattle.cf_cli.proofs.Ends.{ends_early}
+use Rattle.cf_cli.proofs.Ends.{ends_early, ends_played}
 use Rattle.cf_cli.proofs.program.replay.Goals as goal
 
 pub returns-in-Err-clause-replayed : goal.returns-in-Err-clause-replayed
@@ -100,13 +100,21 @@ pub returns-clause-file_fine : goal.returns-clause-file_fine
 returns-clause-file_fine g c = λ ne. c.run_once.ensures.file_fine ne ∙ c.in-Ok-load_session.ensures.count ∙ c.in-Ok.ensures.count
 
 pub returns-in-Err-clause-ends : goal.returns-in-Err-clause-ends
-returns-in-Err-clause-ends g c = ends_early c.in-Err.status _ _ _ c.in-Err.ensures.only
+returns-in-Err-clause-ends g c = ends_early c.in-Err.status _ _ _ _ c.in-Err.ensures.only
 
 pub returns-in-Err-load_session-clause-ends : goal.returns-in-Err-load_session-clause-ends
-returns-in-Err-load_session-clause-ends g c = ends_early c.in-Err-load_session.status _ _ _ c.in-Err-load_session.ensures.only
+returns-in-Err-load_session-clause-ends g c = ends_early c.in-Err-load_session.status _ _ _ _ c.in-Err-load_session.ensures.only
 
 pub returns-then-follow-clause-ends : goal.returns-then-follow-clause-ends
-returns-then-follow-clause-ends g c = c.follow_on_tape.ensures.ends
+returns-then-follow-clause-ends g c =
+    ends_played (g.F.Files.files c.load_watch.new.files) (g.F.Files.files c.args.files.now) c.args.session.now c.follow_on_tape.result
+    (names_in c.as_slice-names.result.now) (script_in c.in-Ok-load_session.session) (told_of c.follow_on_tape.new.wires) _ _
+    c.in-Ok-load_session.ensures.script c.load_watch.ensures.same
+    (ap names_in c.as_slice-names.ensures.value ∙ c.in-Ok-load_session.ensures.named) c.follow_on_tape.ensures.ends
 
 pub returns-clause-ends : goal.returns-clause-ends
-returns-clause-ends g c = c.run_once.ensures.ends
+returns-clause-ends g c =
+    ends_played (g.F.Files.files c.load_watch.new.files) (g.F.Files.files c.args.files.now) c.args.session.now c.run_once.result
+    (names_in c.as_slice-names.result.now) (script_in c.in-Ok-load_session.session) (told_of c.run_once.new.wires) _ _
+    c.in-Ok-load_session.ensures.script c.load_watch.ensures.same
+    (ap names_in c.as_slice-names.ensures.value ∙ c.in-Ok-load_session.ensures.named) c.run_once.ensures.ends

@@ -3,7 +3,7 @@ use Rattle.std.proofs.Math.Facts.{to_z-of_z}
 use Rattle.std.specs.Int.{w64}
 use Rattle.cf_run.specs.Names.{names_in}
 use Rattle.cf_input.specs.Words.{command_of}
-use Rattle.cf_wires.specs.Memory.{log_of}
+use Rattle.cf_wires.specs.Memory.{told_of}
 use Rattle.cf_cli.proofs.Plays.{new_tape, judged_for}
 use Rattle.cf_cli.proofs.Doing.{does_so, undone}
 use Rattle.cf_cli.proofs.Handed.{files_stay, wires_stay, tape_stays, files_so, wires_so, tape_so, played_so, link_so, out_so}
@@ -63,12 +63,14 @@ pub returns-in-Ok-clause-out : goal.returns-in-Ok-clause-out
 returns-in-Ok-clause-out g c = out_so c.in-Ok.ensures.exact c.perform.ensures.out
 
 pub returns-in-Ok-clause-ends : goal.returns-in-Ok-clause-ends
-returns-in-Ok-clause-ends g c = ends_so _ c.in-Ok.command c.perform.result _ _ _ _ c.in-Ok.ensures.exact c.perform.ensures.ends
+returns-in-Ok-clause-ends g c = ends_so _ c.in-Ok.command c.perform.result _ _ _ _ _ c.in-Ok.ensures.exact c.perform.ensures.ends
 
 pub returns-in-Err-No-clause-ends : goal.returns-in-Err-No-clause-ends
 returns-in-Err-No-clause-ends g c =
-    ends_untold (command_of (names_in c.args.words.now)) Usage (g.W.Wires.told c.args.wires.now).log (log_of c.args.tape.now) c.args.ends.now.items refl
+    ends_untold (command_of (names_in c.args.words.now)) Usage (g.F.Files.files c.args.files.now) (g.W.Wires.told c.args.wires.now)
+    (told_of c.args.tape.now) c.args.ends.now.items refl
 
 pub returns-in-Err-NoMemory-clause-ends : goal.returns-in-Err-NoMemory-clause-ends
 returns-in-Err-NoMemory-clause-ends g c =
-    ends_untold (command_of (names_in c.args.words.now)) NoMemory (g.W.Wires.told c.args.wires.now).log (log_of c.args.tape.now) c.args.ends.now.items refl
+    ends_untold (command_of (names_in c.args.words.now)) NoMemory (g.F.Files.files c.args.files.now) (g.W.Wires.told c.args.wires.now)
+    (told_of c.args.tape.now) c.args.ends.now.items refl
