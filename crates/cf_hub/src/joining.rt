@@ -9,7 +9,7 @@ ghost use Rattle.cf_hub.specs.Gives.{IsFront};
 ghost use Rattle.cf_outside.specs.{Reads, Ticked};
 
 use cf_conn::Source;
-use cf_outside::{Finished, EntryKind, Pulse, Reader, Stopped, Ticker};
+use cf_outside::{EntryKind, Finished, Pulse, Reader, Stopped, Ticker};
 use cf_tasks::{Busy, Queue, Sender};
 use std::marker::Model;
 use std::snapshot::Snapshot;

@@ -16,7 +16,10 @@ use std::sync::Arc;
 use std::sync::atomic::AtomicBool;
 
 // A sender for each peer, that of the first last.
-fn peer_senders(alloc: Global, queue: &mut Queue<EntryKind>) -> Result<Vec<Sender<EntryKind>>, AllocError>
+fn peer_senders(
+    alloc: Global,
+    queue: &mut Queue<EntryKind>,
+) -> Result<Vec<Sender<EntryKind>>, AllocError>
     requires { queue.old.made ≡ 1 }
     ensures ring { sends_on queue.new.line ≡ sends_on queue.old.line }
     ensures got { (view queue.new.seat).got ≡ (view queue.old.seat).got }

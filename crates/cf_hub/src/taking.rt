@@ -18,7 +18,11 @@ use cf_wires::Delivery;
 use std::sync::Wait;
 
 // Takes the next entry, and notes whose last it is.
-pub(crate) fn receive<R: Wait>(rt: &R, queue: &mut Queue<EntryKind>, gone: &mut [bool; 9]) -> Item<EntryKind>
+pub(crate) fn receive<R: Wait>(
+    rt: &R,
+    queue: &mut Queue<EntryKind>,
+    gone: &mut [bool; 9],
+) -> Item<EntryKind>
     ensures ring { sends_on queue.new.line ≡ sends_on queue.old.line }
     ensures got { (view queue.new.seat).got ≡ (view queue.old.seat).got ++ entry result.from result.kind ∷ [] }
     ensures heard { Heard gone.old (view queue.old.seat).got → Heard gone.new (view queue.new.seat).got }

@@ -7,8 +7,8 @@ use Rattle.cf_dispute.specs.Claims.{Tables}
 use Rattle.cf_headers.specs.Chain.{Hash, Chain}
 use Rattle.cf_headers.specs.Heights.{hash_at, height_of}
 use Rattle.cf_match.specs.Verdicts.{Verdicts}
-use Rattle.cf_tables.specs.declared.kind.BlockStage.{BlockStage}
-use Rattle.cf_tables.specs.declared.kind.BlockStage.TheVariants.{Unclaimed, Unjudged, ToFetch, Done}
+use Rattle.cf_tables.specs.declared.kind.BlockKind.{BlockKind}
+use Rattle.cf_tables.specs.declared.kind.BlockKind.TheVariants.{Unclaimed, Unjudged, ToFetch, Done}
 use Rattle.cf_tables.specs.Known.{ExtractTable}
 use Rattle.cf_tables.specs.Wanting.{IsToFetch, IsKind}
 use Rattle.cf_seek.specs.Opens.{Opens}
@@ -19,7 +19,7 @@ use Rattle.cf_tables.proofs.Told.{none_differ, not_unjudged}
 -- ---- a block's kind
 
 -- a block of another kind isn't to be fetched
-pub not_to_fetch : (extracts : ExtractTable) (tables : Tables) (verdicts : Verdicts) (block : Hash) (k : BlockStage) → IsKind extracts tables verdicts block k → k ≢ ToFetch → IsToFetch extracts tables verdicts block → ⊥
+pub not_to_fetch : (extracts : ExtractTable) (tables : Tables) (verdicts : Verdicts) (block : Hash) (k : BlockKind) → IsKind extracts tables verdicts block k → k ≢ ToFetch → IsToFetch extracts tables verdicts block → ⊥
 not_to_fetch extracts tables verdicts block Unclaimed is1 off (none, inl differ) = (let no = sym (is1.1 differ.0) ∙ differ.1.1.1.1.0.1 in cc no)
 not_to_fetch extracts tables verdicts block Unclaimed is1 off (none, inr hit) = (let no = sym (is1.1 hit.1.0.0) ∙ hit.1.0.1.1 in cc no)
 not_to_fetch extracts tables verdicts block Unjudged is1 off due = not_unjudged extracts tables verdicts block ToFetch due (λ e. cc e) is1

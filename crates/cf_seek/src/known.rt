@@ -5,7 +5,7 @@ ghost use Rattle.cf_tables.specs.{table_in, verdicts_in, IsKindAbove};
 use crate::opens::Opens;
 use cf_bytes::Hash32;
 use cf_dispute::Claims;
-use cf_tables::{Extracts, First, Judged, BlockStage, kind_above};
+use cf_tables::{BlockKind, Extracts, First, Judged, kind_above};
 
 /// What is known of blocks, lent for a call.
 #[derive(Clone, Copy)]
@@ -24,7 +24,7 @@ pub struct Known<'a> {
 
 impl Known<'_> {
     /// What is still to be done about a block; nothing about one that has the first block's hash.
-    pub fn kind_above(self, block: &Hash32) -> BlockStage
+    pub fn kind_above(self, block: &Hash32) -> BlockKind
         ensures { IsKindAbove (table_in self.entry.extracts.now) (tables_of self.entry.claims.now)
             (verdicts_in self.entry.judged.now) block.now.0 result }
     {

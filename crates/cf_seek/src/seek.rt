@@ -8,7 +8,7 @@ ghost use Rattle.cf_seek.specs.OpensOf.{block_at, filter_at};
 ghost use Rattle.cf_seek.specs.Cursors.{marks_at, passed_under};
 ghost use Rattle.cf_seek.specs.Seeking.{ArePassedHits, IsToAsk, IsToGet, AreSought, ArePassed, IsSought, AreToAsk, IsLastToAsk, IsBelowAHit};
 ghost use Rattle.cf_seek.specs.Tracking.{AreRaised, IsFallen, IsMarked, IsWithin};
-ghost use Rattle.cf_tables.specs.declared.kind.BlockStage.TheVariants.{ToFetch};
+ghost use Rattle.cf_tables.specs.declared.kind.BlockKind.TheVariants.{ToFetch};
 
 use crate::cursors::{Cursors, Marks};
 use crate::known::Known;
@@ -18,14 +18,14 @@ use cf_bytes::{Hash32, PeerNo};
 use cf_dispute::Claims;
 use cf_headers::HeaderStore;
 use cf_match::{Job, Verdict};
-use cf_tables::{Extracts, Judged, BlockStage, is_unjudged, kind_of};
+use cf_tables::{BlockKind, Extracts, Judged, is_unjudged, kind_of};
 
 // Whether a block is to be fetched.
-fn is_due(kind: BlockStage) -> bool
+fn is_due(kind: BlockKind) -> bool
     ensures yes { result ≡ true → kind ≡ ToFetch }
     ensures no { result ≡ false → kind ≢ ToFetch }
 {
-    matches!(kind, BlockStage::ToFetch)
+    matches!(kind, BlockKind::ToFetch)
 }
 
 // Whether a block's filter is to be asked for, and open to nobody.

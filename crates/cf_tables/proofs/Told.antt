@@ -9,8 +9,8 @@ use Rattle.cf_block.specs.Header.{block_hash_of, genesis_header}
 use Rattle.cf_headers.specs.Chain.{Hash, Chain, tip_hash}
 use Rattle.cf_headers.specs.Heights.{hash_at}
 use Rattle.cf_match.specs.Verdicts.{Verdicts}
-use Rattle.cf_tables.specs.declared.kind.BlockStage.{BlockStage}
-use Rattle.cf_tables.specs.declared.kind.BlockStage.TheVariants.{Unclaimed, Unjudged, ToFetch, Done}
+use Rattle.cf_tables.specs.declared.kind.BlockKind.{BlockKind}
+use Rattle.cf_tables.specs.declared.kind.BlockKind.TheVariants.{Unclaimed, Unjudged, ToFetch, Done}
 use Rattle.cf_tables.specs.Known.{ExtractTable}
 use Rattle.cf_tables.specs.Wanting.{IsUnjudged, IsKind}
 
@@ -25,7 +25,7 @@ pub there_or_none : (extracts : ExtractTable) (block : Hash) → extracts block 
 there_or_none extracts block none there = (let no = subst IsSome none there in cc no)
 
 -- a block of another kind isn't unjudged
-pub not_unjudged : (extracts : ExtractTable) (tables : Tables) (verdicts : Verdicts) (block : Hash) (k : BlockStage) → IsKind extracts tables verdicts block k → k ≢ Unjudged → IsUnjudged extracts tables verdicts block → ⊥
+pub not_unjudged : (extracts : ExtractTable) (tables : Tables) (verdicts : Verdicts) (block : Hash) (k : BlockKind) → IsKind extracts tables verdicts block k → k ≢ Unjudged → IsUnjudged extracts tables verdicts block → ⊥
 not_unjudged extracts tables verdicts block Unclaimed is1 off un = (let no = sym (is1.1 un.1.1.0.0) ∙ un.1.1.0.1.1 in cc no)
 not_unjudged extracts tables verdicts block Unjudged is1 off un = off refl
 not_unjudged extracts tables verdicts block ToFetch (none, inl differ) off un = none_differ tables block un.1.0 un.1.1 differ

@@ -8,8 +8,8 @@ use Rattle.cf_headers.specs.Chain.{Hash, Chain}
 use Rattle.cf_headers.specs.Heights.{hash_at}
 use Rattle.cf_match.specs.declared.job.Verdict.TheVariants.{Miss, Hit}
 use Rattle.cf_match.specs.Verdicts.{Verdicts}
-use Rattle.cf_tables.specs.declared.kind.BlockStage.{BlockStage}
-use Rattle.cf_tables.specs.declared.kind.BlockStage.TheVariants.{Unclaimed, Unjudged, ToFetch, Done}
+use Rattle.cf_tables.specs.declared.kind.BlockKind.{BlockKind}
+use Rattle.cf_tables.specs.declared.kind.BlockKind.TheVariants.{Unclaimed, Unjudged, ToFetch, Done}
 use Rattle.cf_tables.specs.Known.{ExtractTable}
 
 -- a block's hash isn't genesis's
@@ -29,14 +29,14 @@ abbrev pub IsToFetch : ExtractTable → Tables → Verdicts → Hash → Type 0
 IsToFetch extracts tables verdicts block = (extracts block ≡ None) × (IsAt tables block Differ ⊎ ((hash : Hash32) × IsAt tables block (One hash) × (verdicts block hash.0 ≡ Some Hit)))
 
 -- the four kinds, one of which each block is
-abbrev pub IsKind : ExtractTable → Tables → Verdicts → Hash → BlockStage → Type 0
+abbrev pub IsKind : ExtractTable → Tables → Verdicts → Hash → BlockKind → Type 0
 IsKind extracts tables verdicts block Unclaimed = (extracts block ≡ None) × IsAt tables block Nobody
 IsKind extracts tables verdicts block Unjudged = IsUnjudged extracts tables verdicts block
 IsKind extracts tables verdicts block ToFetch = IsToFetch extracts tables verdicts block
 IsKind extracts tables verdicts block Done = IsDone extracts tables verdicts block
 
 -- and with nothing to be done about a block that has genesis's hash
-abbrev pub IsKindAbove : ExtractTable → Tables → Verdicts → Hash → BlockStage → Type 0
+abbrev pub IsKindAbove : ExtractTable → Tables → Verdicts → Hash → BlockKind → Type 0
 IsKindAbove extracts tables verdicts block k = (IsAbove block → IsKind extracts tables verdicts block k) × (k ≢ Done → IsAbove block)
 
 -- of a peer's blocks above genesis, up to a height, but for those that have genesis's hash

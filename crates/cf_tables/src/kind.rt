@@ -1,7 +1,7 @@
 //! What is still to be done about a block.
 ghost use Rattle.std.specs.Prelude.{◌≡◌, ◌≢◌, ℕ, List, true, false, None, IsSome};
-ghost use Rattle.cf_tables.specs.declared.kind.BlockStage.{BlockStage};
-ghost use Rattle.cf_tables.specs.declared.kind.BlockStage.TheVariants.{Done, Unjudged};
+ghost use Rattle.cf_tables.specs.declared.kind.BlockKind.{BlockKind};
+ghost use Rattle.cf_tables.specs.declared.kind.BlockKind.TheVariants.{Done, Unjudged};
 ghost use Rattle.cf_dispute.specs.{tables_of, IsAt, blocks_of};
 ghost use Rattle.cf_dispute.specs.declared.claim.At.TheVariants.{Differ};
 ghost use Rattle.cf_headers.specs.{IsIn};
@@ -19,7 +19,7 @@ use cf_match::Verdict;
 
 /// What is still to be done about a block.
 #[derive(Clone, Copy, Debug)]
-pub enum BlockStage {
+pub enum BlockKind {
     /// Nobody claims anything of its filter, and it has no extract.
     Unclaimed,
     /// Its filter is to be asked for.
@@ -31,19 +31,19 @@ pub enum BlockStage {
 }
 
 // What is still to be done about a block, where it has no extract.
-fn kind_unfetched(claims: &Claims, judged: &Judged, block: &Hash32) -> BlockStage
+fn kind_unfetched(claims: &Claims, judged: &Judged, block: &Hash32) -> BlockKind
     ensures unfetched { (extracts : ExtractTable) → extracts block.now.0 ≡ None
         → IsKind extracts (tables_of claims.now) (verdicts_in judged.now) block.now.0 result }
     ensures done { result ≡ Done → (extracts : ExtractTable)
         → IsDone extracts (tables_of claims.now) (verdicts_in judged.now) block.now.0 }
 {
     match claims.at(block) {
-        At::Nobody => BlockStage::Unclaimed,
-        At::Differ => BlockStage::ToFetch,
+        At::Nobody => BlockKind::Unclaimed,
+        At::Differ => BlockKind::ToFetch,
         At::One(hash) => match judged.get(block, &hash) {
-            None => BlockStage::Unjudged,
-            Some(Verdict::Miss) => BlockStage::Done,
-            Some(Verdict::Hit) => BlockStage::ToFetch,
+            None => BlockKind::Unjudged,
+            Some(Verdict::Miss) => BlockKind::Done,
+            Some(Verdict::Hit) => BlockKind::ToFetch,
         },
     }
 }
@@ -57,15 +57,15 @@ fn is_fetched(extracts: &Extracts, block: &Hash32) -> bool
 }
 
 /// What is still to be done about a block. Most filters miss, so its extract is looked for last.
-pub fn kind_of(extracts: &Extracts, claims: &Claims, judged: &Judged, block: &Hash32) -> BlockStage
+pub fn kind_of(extracts: &Extracts, claims: &Claims, judged: &Judged, block: &Hash32) -> BlockKind
     ensures { IsKind (table_in extracts.now) (tables_of claims.now) (verdicts_in judged.now) block.now.0 result }
 {
     let kind = kind_unfetched(claims, judged, block);
     if is_done(kind) {
-        return BlockStage::Done;
+        return BlockKind::Done;
     }
     if is_fetched(extracts, block) {
-        return BlockStage::Done;
+        return BlockKind::Done;
     }
     kind
 }
@@ -92,29 +92,29 @@ pub fn kind_above(
     judged: &Judged,
     first: &First,
     block: &Hash32,
-) -> BlockStage
+) -> BlockKind
     ensures { IsKindAbove (table_in extracts.now) (tables_of claims.now) (verdicts_in judged.now) block.now.0 result }
 {
     if first.is(block) {
-        return BlockStage::Done;
+        return BlockKind::Done;
     }
     kind_of(extracts, claims, judged, block)
 }
 
 /// Whether nothing is to be done.
-pub fn is_done(kind: BlockStage) -> bool
+pub fn is_done(kind: BlockKind) -> bool
     ensures yes { result ≡ true → kind ≡ Done }
     ensures no { result ≡ false → kind ≢ Done }
 {
-    matches!(kind, BlockStage::Done)
+    matches!(kind, BlockKind::Done)
 }
 
 /// Whether a filter is to be asked for.
-pub fn is_unjudged(kind: BlockStage) -> bool
+pub fn is_unjudged(kind: BlockKind) -> bool
     ensures yes { result ≡ true → kind ≡ Unjudged }
     ensures no { result ≡ false → kind ≢ Unjudged }
 {
-    matches!(kind, BlockStage::Unjudged)
+    matches!(kind, BlockKind::Unjudged)
 }
 
 /// Whether different things are claimed of a block.

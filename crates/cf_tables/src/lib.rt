@@ -13,7 +13,8 @@ pub use extracts::Extracts;
 pub use first::First;
 pub use judged::Judged;
 pub use kind::{
-    BlockStage, is_any_disputed, is_differing, is_done, is_unclaimed, is_unjudged, kind_above, kind_of,
+    BlockKind, is_any_disputed, is_differing, is_done, is_unclaimed, is_unjudged, kind_above,
+    kind_of,
 };
 pub use outputs::Outputs;
 pub use tests::Tests;

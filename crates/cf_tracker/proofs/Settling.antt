@@ -6,8 +6,8 @@ use Rattle.cf_headers.specs.Chain.{Hash, Chain}
 use Rattle.cf_headers.specs.Heights.{hash_at}
 use Rattle.cf_match.specs.Verdicts.{Verdicts}
 use Rattle.cf_tracker.specs.declared.account.Written.{Written}
-use Rattle.cf_tables.specs.declared.kind.BlockStage.{BlockStage}
-use Rattle.cf_tables.specs.declared.kind.BlockStage.TheVariants.{Unclaimed, Unjudged, ToFetch, Done}
+use Rattle.cf_tables.specs.declared.kind.BlockKind.{BlockKind}
+use Rattle.cf_tables.specs.declared.kind.BlockKind.TheVariants.{Unclaimed, Unjudged, ToFetch, Done}
 use Rattle.cf_tables.specs.Known.{ExtractTable}
 use Rattle.cf_tables.specs.Wanting.{IsDone, IsKind, IsKindAbove}
 use Rattle.cf_tracker.specs.Writing.{AreDone, IsDoneAbove, WritesOver, WritesPart}
@@ -16,7 +16,7 @@ use Rattle.cf_seek.proofs.Sought.{not_to_fetch}
 use Rattle.cf_tables.proofs.Told.{not_unjudged, there_or_none}
 
 -- a block of another kind isn't settled
-not_done : (extracts : ExtractTable) (tables : Tables) (verdicts : Verdicts) (block : Hash) (k : BlockStage)
+not_done : (extracts : ExtractTable) (tables : Tables) (verdicts : Verdicts) (block : Hash) (k : BlockKind)
     → IsKind extracts tables verdicts block k → k ≢ Done → IsDone extracts tables verdicts block → ⊥
 not_done extracts tables verdicts block Unclaimed is off (inl there) = there_or_none extracts block is.0 there
 not_done extracts tables verdicts block Unclaimed is off (inr done) = (let no = sym (is.1 done.1.0.0) ∙ done.1.0.1.1 in cc no)
@@ -24,11 +24,11 @@ not_done extracts tables verdicts block Unjudged is off done = not_unjudged extr
 not_done extracts tables verdicts block ToFetch is off done = not_to_fetch extracts tables verdicts block Done done (λ e. cc e) is
 not_done extracts tables verdicts block Done is off done = off refl
 
-pub settled_by : (extracts : ExtractTable) (tables : Tables) (verdicts : Verdicts) (block : Hash) (k : BlockStage)
+pub settled_by : (extracts : ExtractTable) (tables : Tables) (verdicts : Verdicts) (block : Hash) (k : BlockKind)
     → IsKindAbove extracts tables verdicts block k → k ≡ Done → IsDoneAbove extracts tables verdicts block
 settled_by extracts tables verdicts block k kind is above = subst (IsKind extracts tables verdicts block) is (kind.0 above)
 
-pub unsettled_by : (extracts : ExtractTable) (tables : Tables) (verdicts : Verdicts) (block : Hash) (k : BlockStage)
+pub unsettled_by : (extracts : ExtractTable) (tables : Tables) (verdicts : Verdicts) (block : Hash) (k : BlockKind)
     → IsKindAbove extracts tables verdicts block k → k ≢ Done → IsDoneAbove extracts tables verdicts block → ⊥
 unsettled_by extracts tables verdicts block k kind off done = not_done extracts tables verdicts block k (kind.0 (kind.1 off)) off (done (kind.1 off))
 
