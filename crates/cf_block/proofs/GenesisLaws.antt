@@ -1,5 +1,7 @@
 -- The first block of regtest's chain, computed.
-use Rattle.std.proofs.Common.{◌≡◌, length, refl, sym, arith}
+use Rattle.std.proofs.Common.{◌≡◌, ◌<◌, [], ◌∷◌, length, refl, sym, arith}
+use Rattle.std.specs.Prelude.{◌^◌, FitsSigned}
+use Rattle.std.specs.Int.{w32}
 use Rattle.sha2.specs.Sha256.{compress, digest_bytes, first_words, hash_after, rounds, schedule, sha256}
 use Rattle.cf_bytes.specs.Hash.{hash_of}
 use Rattle.cf_bytes.specs.Compact.{compact}
@@ -7,7 +9,10 @@ use Rattle.cf_block.specs.Commitment.{IsCommitted}
 use Rattle.cf_block.specs.Genesis.{signing_script, paid_script, first_input, first_output, first_tx, first_block, first_tx_bytes, genesis_hash}
 use Rattle.cf_block.specs.Header.{block_hash_of, header_spelling, genesis_header}
 use Rattle.cf_block.specs.Merkle.{root_within, is_mutated_within}
-use Rattle.cf_block.specs.Tx.{IsTx, IsBlock, input_spelling, output_spelling, tx_spelling, txid_of, block_spelling}
+use Rattle.cf_block.specs.Output.{Output}
+use Rattle.cf_block.specs.declared.tx.Tx.{Tx}
+use Rattle.cf_block.specs.declared.tx.TxIn.{TxIn}
+use Rattle.cf_block.specs.Tx.{IsInput, IsOutput, IsTx, IsBlock, input_spelling, output_spelling, tx_spelling, txid_of, block_spelling}
 use Rattle.cf_block.proofs.HeaderLaws.{genesis_fits}
 
 pub tx_is : tx_spelling first_tx ≡ first_tx_bytes
@@ -30,18 +35,25 @@ block_length : length (block_spelling first_block) ≡ 285
 unfolding block_spelling header_spelling tx_spelling input_spelling output_spelling first_block first_input first_output signing_script paid_script genesis_header compact
 block_length = refl
 
+-- a transaction with one input and one output
+pub one_fits : (t : Tx) (i : TxIn) (o : Output) → t.inputs ≡ i ∷ [] → t.outputs ≡ o ∷ [] → FitsSigned w32 t.version → IsInput i → IsOutput o
+    → t.lock_time < 2 ^ 32 → IsTx t
+one_fits t i o ins outs version input output lock = record {
+  version = version;
+  some_inputs = rw ins (omega arith);
+  few_inputs = rw ins (omega arith);
+  inputs = rw ins (input, tt);
+  some_outputs = rw outs (omega arith);
+  few_outputs = rw outs (omega arith);
+  outputs = rw outs (output, tt);
+  lock_time = lock;
+}
+
 tx_fits : IsTx first_tx
 unfolding first_input first_output signing_script paid_script
-tx_fits = record {
-  version = record { sfits = omega arith };
-  some_inputs = omega arith;
-  few_inputs = omega arith;
-  inputs = (record { txid = refl; index = omega arith; script = omega arith; sequence = omega arith }, tt);
-  some_outputs = omega arith;
-  few_outputs = omega arith;
-  outputs = (record { value = omega arith; script = omega arith }, tt);
-  lock_time = omega arith;
-}
+tx_fits =
+    one_fits first_tx first_input first_output refl refl (record { sfits = omega arith })
+    (record { txid = refl; index = omega arith; script = omega arith; sequence = omega arith }) (record { value = omega arith; script = omega arith }) (omega arith)
 
 pub block_is : IsBlock first_block
 unfolding first_block
