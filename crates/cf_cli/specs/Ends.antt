@@ -18,13 +18,13 @@ use Rattle.cf_cli.specs.Theorem.{IsWhole}
 abbrev pub AreEndsOf : Option Log → List PeerEnd → Type 0
 AreEndsOf log ends = IfSome log (EndsTell ends)
 
--- over wires that tell this a run was made, which dialled so many peers and finished the wires, and these are the ends of their log
+-- these wires tell that so many peers were dialled and that they are finished; and where they tell a log, these are its ends
 pub record AreEndsBy (names : ℕ) (now : Told) (ends : List PeerEnd) : Type 0 where
   pub whole : IsWhole names now
   pub tell : AreEndsOf now.log ends
 
 -- The ends after a run that was answered so: once it was made, as the answer makes sure, they are those of its log, and where none was begun they are what was
--- handed in. Where memory is wanting, or the sink or a file fails, they are one of both; and those of a log only where a run was made.
+-- handed in. With each answer they are one of both, and those of a log only where all peers were dialled and the wires are finished.
 pub record AreEndsOnce (made : Bool) (status : Status) (recorded : Bool) (names : ℕ) (now : Told) (before after : List PeerEnd) : Type 0 where
   pub told : made ≡ true → AreEndsBy names now after
   pub unbegun : was_unbegun status recorded ≡ true → after ≡ before
@@ -43,18 +43,18 @@ abbrev pub dials_read : Result Script SessionFault → ℕ → ℕ
 dials_read (Ok script) dialled = length script.dials
 dials_read (Err fault) dialled = dialled
 
--- the same of the bytes of a file, where it is there
+-- the same of the bytes of a file; where there is none, so many as were dialled
 abbrev pub dials_held : Option (List ℕ) → ℕ → ℕ
 dials_held None dialled = dialled
 dials_held (Some bytes) dialled = dials_read (session_of bytes) dialled
 
--- the same of the file of this name, where the files tell
+-- the same of the file of this name; where the files don't tell, so many as were dialled
 abbrev pub dials_in : Option Named → List ℕ → ℕ → ℕ
 dials_in None name dialled = dialled
 dials_in (Some m) name dialled = dials_held (finite.get m name) dialled
 
 -- The ends after a command that was answered so: those of the log of the wires after `sync` and `follow`, which dial the peers of their words, and of the tape
--- after `replay`, which dials those of its session; no other changes them.
+-- after `replay`, which dials those of its session, where that was read; no other changes them.
 abbrev pub AreEnds : Option Command → Status → Option Named → Told → Told → List PeerEnd → List PeerEnd → Type 0
 AreEnds (Some (Sync turns workers file watch peers)) status files wires tape before after =
     AreEndsAfter status (is_some file) (length peers) wires before after

@@ -422,7 +422,8 @@ where
 ///
 /// How each peer stands once `sync`, `follow` or `replay` has made its run is put into `ends`, in the order of their
 /// numbers. Where no run was begun, and with each other command, `ends` stays as it is handed in. With each answer it
-/// is one of both: what was handed in, or what the log tells of a run that has dialled all peers and come to its end.
+/// is one of both: what was handed in, or, where all peers were dialled and the wires are finished, what their log
+/// tells, where they tell it.
 pub fn run<
     R: Wait + Threads + Sync + Copy + Drop + Send + 'static,
     J: Joins + Copy + Drop + Send + 'static,

@@ -92,7 +92,7 @@ abbrev pub is_none : {X : Type 0} → List X → Bool
 is_none [] = true
 is_none (x ∷ xs) = false
 
--- a line after those of a session: a dial line, or another
+-- a session with one line more, where the line is this dial, or none
 abbrev pub with_line_by : Script → List ℕ → Option Dial → Result Script SessionCause
 with_line_by s line (Some d) =
     if is_none s.deliveries then

@@ -35,6 +35,7 @@ cause_by tip past height coins b =
     (or_else (in_commitment (commit_fault b))
     (in_coins (spend_txs coins b.txs))))
 
+-- a block and the bytes after it, unless there is this cause against it
 abbrev pub block_unless : Option RecordCause → Block → List ℕ → Taken Block
 block_unless None b rest = Ok (b, rest)
 block_unless (Some cause) b rest = Err cause
