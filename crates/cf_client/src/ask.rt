@@ -14,7 +14,7 @@ ghost use Rattle.cf_msg.specs.declared.msg.Msg.TheVariants.{GetCfheaders, GetCfi
 ghost use Rattle.cf_place.specs.declared.place.Loss.{Loss};
 ghost use Rattle.cf_place.specs.declared.place.Place.TheVariants.{Lost};
 ghost use Rattle.cf_place.specs.{Fits, PlacesStand, AreCalm, is_calm, is_idle, is_wanting, is_settled, is_here, place_at, IsQuestion, IsFetch};
-ghost use Rattle.cf_client.specs.Settled.{AreRight, IsRightAt, IsAskedThrough, AreAskedThrough};
+ghost use Rattle.cf_client.specs.Settled.{AreRight, AreSettled, IsRightAt, IsAskedThrough};
 ghost use Rattle.cf_client.specs.Order.{AddsPings, AddsQuestions, ClosesOne, ClosesLate};
 ghost use Rattle.cf_client.specs.Steps.{desk, IsInOrder, Same, Ticked, Moves, Asks, HasPingedOut, IsPinged, IsSent, IsSentFor, IsSentAsWished};
 ghost use Rattle.cf_peer.specs.declared.mode.Mode.TheVariants.{Following};
@@ -389,8 +389,7 @@ pub(crate) fn ask_all<H: HeaderStore>(
     requires order { IsInOrder (desk tracker.old places.old acts.old.items) }
     ensures moves { OnOk result
         (Moves mode Same (desk tracker.old places.old acts.old.items) (desk tracker.new places.new acts.new.items)) }
-    ensures settled { OnOk result ((p : ℕ) → is_settled mode (place_at places.new p) ≡ true) }
-    ensures through { OnOk result (AreAskedThrough places.new (seen_of tracker.new)) }
+    ensures settled { OnOk result (AreSettled mode places.new (seen_of tracker.new)) }
     ensures verdicts { OnOk result (AreSameVerdicts (verdicts_of tracker.new) (verdicts_of tracker.old)) }
     ensures busy { OnOk result ((p : ℕ) → is_idle (place_at places.new p) ≡ true
         → place_at places.new p ≡ place_at places.old p) }
