@@ -57,7 +57,9 @@ fn tick_one<P: Pulse, R: Wait>(
         let _ = sender.send(rt, EntryKind::Last);
         return false;
     }
-    sender.send(rt, EntryKind::Tick(Seconds::new(seconds))).is_ok()
+    sender
+        .send(rt, EntryKind::Tick(Seconds::new(seconds)))
+        .is_ok()
 }
 
 impl<P: Pulse, R: Wait + Drop> Task for Ticker<P, R> {
