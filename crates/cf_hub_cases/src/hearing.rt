@@ -4,7 +4,6 @@ ghost use Rattle.std.specs.Prelude.{◌≡◌, ℕ, ◌++◌, ◌∷◌, ◌||�
 ghost use Rattle.cf_hub.specs.{told_of, begun, pulse_in, piece_in, is_gone_of, tick_in};
 ghost use Rattle.cf_hub_cases.specs.declared.telling.ToldPulse.{ToldPulse};
 ghost use Rattle.cf_hub_cases.specs.declared.telling.ToldSource.{ToldSource};
-ghost use Rattle.cf_hub_cases.specs.Stays.{OnlyHears, OnlySends};
 ghost use Rattle.cf_hub_cases.specs.Telling.{up_to, Coming, HasText, Keeps};
 ghost use Rattle.cf_tasks.specs.{IsStart};
 ghost use Rattle.cf_wires.specs.{Tells};
@@ -82,7 +81,10 @@ fn put(came: &mut Came, delivery: &Delivery) -> Option<()>
 fn take_one<R: Wait + Threads + Copy + Drop>(hub: &mut ToldHub<R>, came: &mut Came) -> Option<bool>
     requires { Keeps (told_of hub.old.book) came.old }
     ensures keeps { IfSome result (λ _. Keeps (told_of hub.new.book) came.new) }
-    ensures stays { IfSome result (λ _. OnlyHears hub.old hub.new) }
+    ensures finished { IfSome result (λ _. (told_of hub.new.book).finished ≡ (told_of hub.old.book).finished) }
+    ensures reading { hub.new.reading ≡ hub.old.reading }
+    ensures ticking { hub.new.ticking ≡ hub.old.ticking }
+    ensures writers { hub.new.writers ≡ hub.old.writers }
 {
     let Ok(delivery) = hub.next() else {
         return None;
@@ -99,7 +101,10 @@ fn take_until<R: Wait + Threads + Copy + Drop>(
 ) -> Option<()>
     requires { Keeps (told_of hub.old.book) came.old }
     ensures keeps { IfSome result (λ _. Keeps (told_of hub.new.book) came.new) }
-    ensures stays { IfSome result (λ _. OnlyHears hub.old hub.new) }
+    ensures finished { IfSome result (λ _. (told_of hub.new.book).finished ≡ (told_of hub.old.book).finished) }
+    ensures reading { hub.new.reading ≡ hub.old.reading }
+    ensures ticking { hub.new.ticking ≡ hub.old.ticking }
+    ensures writers { hub.new.writers ≡ hub.old.writers }
 {
     for _ in 0..MOST {
         if came.ticks.len() >= ticks || !take_one(hub, came)? {
@@ -134,7 +139,9 @@ fn say<R: Wait + Threads + Copy + Drop>(hub: &mut ToldHub<R>, bytes: &[u8]) -> O
     requires { HasText hub.old.writers.items [] }
     ensures keeps { (c : Coming) → Keeps (told_of hub.old.book) c
         → IfSome result (λ _. Keeps (told_of hub.new.book) c) }
-    ensures stays { IfSome result (λ _. OnlySends hub.old hub.new) }
+    ensures finished { IfSome result (λ _. (told_of hub.new.book).finished ≡ (told_of hub.old.book).finished) }
+    ensures reading { hub.new.reading ≡ hub.old.reading }
+    ensures ticking { hub.new.ticking ≡ hub.old.ticking }
     ensures text { IfSome result (λ _. HasText hub.new.writers.items bytes.now) }
 {
     match hub.send(PeerNo(1), bytes) {
