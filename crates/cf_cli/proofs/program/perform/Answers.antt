@@ -53,15 +53,6 @@ returns-in-Follow-clause-does g c = rw c.in-Follow.is (record {
   records = c.follow.ensures.files.records;
 })
 
-pub returns-in-Replay-clause-ends : goal.returns-in-Replay-clause-ends
-returns-in-Replay-clause-ends g c = rw c.in-Replay.is (rw c.as_str-in-Replay.ensures at c.replay.ensures.ends)
-
-pub returns-in-Sync-clause-ends : goal.returns-in-Sync-clause-ends
-returns-in-Sync-clause-ends g c = rw c.in-Sync.is (rw c.as_slice.ensures at c.sync.ensures.ends)
-
-pub returns-in-Follow-clause-ends : goal.returns-in-Follow-clause-ends
-returns-in-Follow-clause-ends g c = rw c.in-Follow.is (rw c.as_slice-in-Follow.ensures at c.follow.ensures.ends)
-
 pub returns-in-Scan-clause-does : goal.returns-in-Scan-clause-does
 returns-in-Scan-clause-does g c = rw c.in-Scan.is (rw (c.as_str-in-Scan.ensures, c.as_str-in-Scan-2.ensures) at c.scan.ensures.scanned)
 
@@ -252,13 +243,13 @@ returns-in-Serve-clause-link g c = rw c.in-Serve.is (record {
 })
 
 pub returns-in-Replay-clause-ends : goal.returns-in-Replay-clause-ends
-returns-in-Replay-clause-ends g c = rw c.in-Replay.is c.replay.ensures.ends
+returns-in-Replay-clause-ends g c = rw c.in-Replay.is (rw c.as_str-in-Replay.ensures at c.replay.ensures.ends)
 
 pub returns-in-Sync-clause-ends : goal.returns-in-Sync-clause-ends
-returns-in-Sync-clause-ends g c = rw c.in-Sync.is c.sync.ensures.ends
+returns-in-Sync-clause-ends g c = rw c.in-Sync.is (rw c.as_slice.ensures at c.sync.ensures.ends)
 
 pub returns-in-Follow-clause-ends : goal.returns-in-Follow-clause-ends
-returns-in-Follow-clause-ends g c = rw c.in-Follow.is c.follow.ensures.ends
+returns-in-Follow-clause-ends g c = rw c.in-Follow.is (rw c.as_slice-in-Follow.ensures at c.follow.ensures.ends)
 
 pub returns-in-Scan-clause-ends : goal.returns-in-Scan-clause-ends
 returns-in-Scan-clause-ends g c = rw c.in-Scan.is refl
