@@ -4,6 +4,7 @@ ghost use Rattle.std.specs.Prelude.{◌≡◌, ℕ, ◌++◌, ◌∷◌, ◌||�
 ghost use Rattle.cf_hub.specs.{told_of, begun, pulse_in, piece_in, is_gone_of, tick_in};
 ghost use Rattle.cf_hub_cases.specs.declared.telling.ToldPulse.{ToldPulse};
 ghost use Rattle.cf_hub_cases.specs.declared.telling.ToldSource.{ToldSource};
+ghost use Rattle.cf_hub_cases.specs.Stays.{OnlyHears, OnlySends};
 ghost use Rattle.cf_hub_cases.specs.Telling.{up_to, Coming, HasText, Keeps};
 ghost use Rattle.cf_tasks.specs.{IsStart};
 ghost use Rattle.cf_wires.specs.{Tells};
@@ -81,10 +82,7 @@ fn put(came: &mut Came, delivery: &Delivery) -> Option<()>
 fn take_one<R: Wait + Threads + Copy + Drop>(hub: &mut ToldHub<R>, came: &mut Came) -> Option<bool>
     requires { Keeps (told_of hub.old.book) came.old }
     ensures keeps { IfSome result (λ _. Keeps (told_of hub.new.book) came.new) }
-    ensures finished { IfSome result (λ _. (told_of hub.new.book).finished ≡ (told_of hub.old.book).finished) }
-    ensures reading { hub.new.reading ≡ hub.old.reading }
-    ensures ticking { hub.new.ticking ≡ hub.old.ticking }
-    ensures writers { hub.new.writers ≡ hub.old.writers }
+    ensures stays { IfSome result (λ _. OnlyHears hub.old hub.new) }
 {
     let Ok(delivery) = hub.next() else {
         return None;
@@ -101,10 +99,7 @@ fn take_until<R: Wait + Threads + Copy + Drop>(
 ) -> Option<()>
     requires { Keeps (told_of hub.old.book) came.old }
     ensures keeps { IfSome result (λ _. Keeps (told_of hub.new.book) came.new) }
-    ensures finished { IfSome result (λ _. (told_of hub.new.book).finished ≡ (told_of hub.old.book).finished) }
-    ensures reading { hub.new.reading ≡ hub.old.reading }
-    ensures ticking { hub.new.ticking ≡ hub.old.ticking }
-    ensures writers { hub.new.writers ≡ hub.old.writers }
+    ensures stays { IfSome result (λ _. OnlyHears hub.old hub.new) }
 {
     for _ in 0..MOST {
         if came.ticks.len() >= ticks || !take_one(hub, came)? {
@@ -139,9 +134,7 @@ fn say<R: Wait + Threads + Copy + Drop>(hub: &mut ToldHub<R>, bytes: &[u8]) -> O
     requires { HasText hub.old.writers.items [] }
     ensures keeps { (c : Coming) → Keeps (told_of hub.old.book) c
         → IfSome result (λ _. Keeps (told_of hub.new.book) c) }
-    ensures finished { IfSome result (λ _. (told_of hub.new.book).finished ≡ (told_of hub.old.book).finished) }
-    ensures reading { hub.new.reading ≡ hub.old.reading }
-    ensures ticking { hub.new.ticking ≡ hub.old.ticking }
+    ensures stays { IfSome result (λ _. OnlySends hub.old hub.new) }
     ensures text { IfSome result (λ _. HasText hub.new.writers.items bytes.now) }
 {
     match hub.send(PeerNo(1), bytes) {
