@@ -131,7 +131,7 @@ reply_to blocks m = []
 abbrev pub version_reply : ℤ → ℕ → List Block → Msg
 version_reply now nonce blocks = Version (pos 70016) 65 now no_address no_address nonce (codes "/cf:1/") (pos (length blocks)) (Some 0)
 
--- the time and the nonce are those that the machine was given for the connection
+-- what is answered to one message, where a version came before it or not; the time and the nonce are those that the machine was given for the connection
 abbrev pub replies_to : ℤ → ℕ → List Block → Bool → Msg → List Msg
 replies_to now nonce blocks true m = reply_to blocks m
 replies_to now nonce blocks false (Version version services time to from number agent height relay) = version_reply now nonce blocks ∷ Verack ∷ []

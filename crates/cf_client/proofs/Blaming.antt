@@ -22,7 +22,7 @@ pub blameless : {H M : Type 0} {g : Ghosts H} {j : Judges M} (c : Client H M g j
     → RightlyIn Following log → IsBlameless log
 blameless c log reflects right = blameless_seen (seen_by c) log reflects.tracks reflects.unexposed right
 
--- at a quiet moment, once what each claims of the fetched blocks on which they differ was tested
+-- with nothing open, once what each claims of the fetched blocks on which they differ was tested
 pub has_blamed : {H M : Type 0} {g : Ghosts H} {j : Judges M} (c : Client H M g j) (log : Log) (chain : Chain)
     → Reflects c log → AreBytes log → RightlyIn Following log → NoHashClash (IsHashed log [])
     → IsBest log chain → ((p : ℕ) → IsConnected log p → IsTestedThrough log chain p) → AreBlamed log chain

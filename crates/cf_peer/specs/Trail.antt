@@ -70,7 +70,7 @@ part_after r t = record { trail = hears_fault r.fault (hears r.frames t); waits 
 abbrev pub heard_part : List ℕ → Part → Part
 heard_part piece part = part_after (read_stream (part.waits ++ piece)) part.trail
 
--- the message that the bytes of one send spell: they are one frame, and nothing more
+-- a message that was read, or none where the payload spells none
 abbrev pub message_in : Result Msg Malformed → Option Msg
 message_in (Ok m) = Some m
 message_in (Err e) = None
@@ -260,7 +260,7 @@ replies_owed (Called ∷ t) = []
 replies_owed (Said m ∷ t) = replies_owed t ++ reply_to m t
 replies_owed (_ ∷ t) = replies_owed t
 
--- the replies that it was sent
+-- a message, where it is a reply: a verack or a pong
 abbrev pub as_reply : Msg → List Msg
 as_reply Verack = Verack ∷ []
 as_reply (Pong number) = Pong number ∷ []

@@ -1,4 +1,4 @@
--- At each quiet moment the last text is that of the plain scan of the chain that a growing peer told of last.
+-- At each moment at rest the last text is that of the plain scan of the chain that a growing peer told of last.
 use Rattle.std.proofs.Common.{◌≡◌, ℕ, List, [], ◌∷◌, length, take, Bool, true, false, if◌then◌else◌, refl, sym, ◌∙◌, ap, subst}
 use Rattle.std.specs.Prelude.{bytes_eq}
 use Rattle.std.proofs.lemmas.Slice.Eq.{bytes_eq-Decides}

@@ -644,7 +644,7 @@ growing_right = (
   ),
 )
 
--- ---- both quiet moments
+-- ---- nothing is open at both moments
 
 pub growing_quiet : IsQuiet growing_run
 growing_quiet p = at_one (λ t. is_open t ≡ false) growing_run v_17 p p_17 one_17 (ap (λ r. not (is_idle r)) request_17) refl

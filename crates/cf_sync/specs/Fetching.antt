@@ -57,7 +57,7 @@ AreBytes (_ ∷ log) = AreBytes log
 
 -- ---- blocks
 
--- a committed block with this hash ended an open `getdata` of some peer, before the first frame by which that peer deserved a cause
+-- this block, which is committed, ended an open `getdata` of some peer, before the first frame by which that peer deserved a cause
 abbrev pub IsFetched : Log → Block → Type 0
 IsFetched log block = (p : ℕ) × IsIn block (fetched_blocks (counted_part log p))
 

@@ -1,4 +1,4 @@
--- statement: the texts that a client which follows puts, one at each quiet moment where it differs from the last.
+-- statement: the texts that a client which follows puts, one at each moment at rest where it differs from the last.
 use Rattle.std.specs.Prelude.{◌≡◌, ℕ, bytes_eq, if◌then◌else◌, List, [], ◌∷◌}
 use Rattle.cf_bytes.specs.declared.hash.Hash32.{Hash32}
 use Rattle.cf_wires.specs.declared.event.Event.TheVariants.{Took}

@@ -82,7 +82,7 @@ pub record Tells (log : Log) (t : Told) : Type 0 where
   pub content : IfSome t.log (λ l. l ≡ log)
   pub counts : t.tally ≡ tally_of log
 
--- the deliveries of a log in order, but for the ends
+-- deliveries with one more behind them, unless it is the end
 abbrev pub with_delivery : Delivery → List Delivery → List Delivery
 with_delivery (Got p piece) ds = ds ++ Got p piece ∷ []
 with_delivery (Gone p) ds = ds ++ Gone p ∷ []
