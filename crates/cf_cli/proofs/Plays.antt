@@ -163,7 +163,8 @@ early_kept status recorded trace scripts names b log off none = subst (λ (l : L
   writes = λ p blocks serves other is untraced. absurd (false≢true serves.honest.dialled);
   answers = λ p blocks serves quiet. absurd (false≢true serves.honest.dialled);
   complete = λ p blocks serves. absurd (false≢true serves.honest.dialled);
-  never = λ p blocks serves ne. tt;
+  never = λ p blocks serves. tt;
+  right = (tt, tt);
   ran = λ is. absurd (false≢true (sym off ∙ is));
   unrecorded = λ is. inl refl;
 })

@@ -23,12 +23,14 @@ use Rattle.cf_peer.specs.Trail.{Trail, trail, is_connected, ready}
 use Rattle.cf_scan.specs.declared.history.Entry.{Entry}
 use Rattle.cf_scan.specs.HistoryText.{history_text}
 use Rattle.cf_scan.specs.Scan.{scan_of}
-use Rattle.cf_sync.specs.Fetching.{IsQuiet, IsBusy, IsConnected, Rule, once}
+use Rattle.cf_peer.specs.declared.mode.Mode.TheVariants.{Once}
+use Rattle.cf_sync.proofs.Settles.{honest_never_closed}
+use Rattle.cf_sync.specs.Fetching.{AreBytes, IsQuiet, IsBusy, IsConnected, RightlyIn, Rule, once}
 use Rattle.cf_sync.specs.Sync.{SyncTheorem, IsHistoryOf}
 use Rattle.cf_answers.specs.declared.status.Status.{Status}
 use Rattle.cf_answers.specs.declared.status.Status.TheVariants.{Done, NoMemory, Usage, BadFile, FileFault, OutFault, NoPeers, Tired, Ended, LinkFault, NoNonce, NoHeight, NotThere, NotAddress}
 use Rattle.cf_answers.specs.Texts.{run_text}
-use Rattle.cf_cli.specs.Theorem.{IsAnswerOf, Settles, IsComplete, KeptOnce, TellsEnds, AnswersTo, WasFollowed, WasOver}
+use Rattle.cf_cli.specs.Theorem.{IsAnswerOf, IsDoneOrFault, IsComplete, KeptOnce, AnswerTellsEnds, AnswersTo, RanBy, WasOver}
 
 -- the answer, where the text was written
 pub answered : (end : End) (ends : List PeerEnd) (status : Status) (before after : Option (List ℕ)) (text : List ℕ) → AnswersTo end ends status → after ≡ with_more before text → IsAnswerOf end status before after text
@@ -47,7 +49,7 @@ ended_not_quiet log why quiet = busy_not_quiet why.0 why.1.1 (λ p. subst (λ (l
 pub somebody_left : (end : End) (log : Log) (p : ℕ) → IsEnd end log → IsConnected log p → end ≢ HasNoPeers
 somebody_left end log p why here is = let nobody : IsEnd HasNoPeers log = subst (λ (e : End). IsEnd e log) is why in both_ways (is_connected (trail log p)) (nobody p) here
 
-settles : (end : End) (status : Status) (recorded : Bool) (before after : Option (List ℕ)) (text : List ℕ) (log : Log) → IsAnswerOf end status before after text → IsEnd end log → end ≢ HasNoPeers → IsQuiet log → Settles status recorded
+settles : (end : End) (status : Status) (recorded : Bool) (before after : Option (List ℕ)) (text : List ℕ) (log : Log) → IsAnswerOf end status before after text → IsEnd end log → end ≢ HasNoPeers → IsQuiet log → IsDoneOrFault status recorded
 settles end Done recorded before after text log answer why somebody quiet = tt
 settles end OutFault recorded before after text log answer why somebody quiet = tt
 settles end NoMemory recorded before after text log answer why somebody quiet = tt
@@ -118,14 +120,14 @@ was_over counts rule called o names turns t is within = by t.log is where
 
 -- what is put together of a run tells how it went
 abbrev pub followed_by : (counts : Chains → ℕ → Type 0) (rule : Rule) (names : List (List ℕ)) (o : Outcome) (log : Log)
-    → IsOutcome counts rule names o log → WasFollowed rule names log
+    → IsOutcome counts rule names o log → RanBy rule names log
 followed_by counts rule names o log is =
     record { end = o.end; height = o.height; tip = o.tip; entries = o.history; lines = o.trace.items; followed = is.followed }
 
 kept_of : (counts : Chains → ℕ → Type 0) (watch names : List (List ℕ)) (o : Outcome) (status : Status) (recorded trace : Bool) (before after : Option (List ℕ)) (log : Log)
     → IsOutcome counts (once watch) names o log → SyncTheorem watch o.height o.tip o.history log
     → IsAnswerOf o.end status before after (run_text trace o.trace.items o.end o.history o.height o.tip)
-    → TellsEnds status log → KeptOnce status recorded trace watch names before after log
+    → AnswerTellsEnds status log → KeptOnce status recorded trace watch names before after log
 kept_of counts watch names o status recorded trace before after log is theorem answer stands =
     let text : List ℕ = run_text trace o.trace.items o.end o.history o.height o.tip in
     let why : IsEnd o.end log = is.followed.why in
@@ -140,19 +142,22 @@ kept_of counts watch names o status recorded trace before after log is theorem a
       complete = λ p blocks serves.
           let somebody = somebody_left o.end log p why (theorem.somebody p blocks serves.apart serves.honest) in
           completes o.end status recorded before after text answer somebody;
-      never = λ p blocks serves ne. theorem.never p blocks serves.apart serves.honest;
+      never = λ p blocks serves. theorem.never p blocks serves.apart serves.honest;
+      right = (is.followed.asked.bytes, is.followed.asked.rightly);
       ran = λ made. record { run = followed_by counts (once watch) names o log is; answered = answer; stands = stands };
       unrecorded = λ same. absurd (subst (λ (s : Status). IsAnswerOf o.end s before after text) same answer);
     }
 
--- where no memory is found nothing is said
-pub kept_without : (o : Option Log) (watch names : List (List ℕ)) (recorded trace : Bool) (before after : Option (List ℕ)) → IfSome o (λ log. KeptOnce NoMemory recorded trace watch names before after log)
-kept_without None watch names recorded trace before after = tt
-kept_without (Some log) watch names recorded trace before after = record {
+-- where no memory is found the run was right until then
+pub kept_without : (o : Option Log) (watch names : List (List ℕ)) (recorded trace : Bool) (before after : Option (List ℕ))
+    → IfSome o (λ log. AreBytes log × RightlyIn Once log) → IfSome o (λ log. KeptOnce NoMemory recorded trace watch names before after log)
+kept_without None watch names recorded trace before after right = tt
+kept_without (Some log) watch names recorded trace before after right = record {
   writes = λ p blocks serves none is off. cc;
   answers = λ p blocks serves quiet. tt;
   complete = λ p blocks serves. tt;
-  never = λ p blocks serves ne. absurd (ne refl);
+  never = λ p blocks serves. honest_never_closed log p blocks right.0 serves.apart right.1 serves.honest;
+  right = right;
   ran = λ is. cc;
   unrecorded = λ is. cc;
 }
@@ -166,27 +171,28 @@ unrecorded_told (Some log) counts watch names o recorded trace before after on i
   writes = λ p blocks serves none same off. cc;
   answers = λ p blocks serves quiet. on;
   complete = λ p blocks serves. on;
-  never = λ p blocks serves ne. theorem.never p blocks serves.apart serves.honest;
+  never = λ p blocks serves. theorem.never p blocks serves.apart serves.honest;
+  right = (is.followed.asked.bytes, is.followed.asked.rightly);
   ran = λ made. cc;
   unrecorded = λ same. inr (followed_by counts (once watch) names o log is);
 }
 
 -- how the peers stand that the answer tells of
-pub stands_by : (end : End) (ends : List PeerEnd) (status : Status) (log : Log) → AnswersTo end ends status → EndsTell ends log → TellsEnds status log
+pub stands_by : (end : End) (ends : List PeerEnd) (status : Status) (log : Log) → AnswersTo end ends status → EndsTell ends log → AnswerTellsEnds status log
 stands_by IsSynced ends status log is tell = λ told no. cc
 stands_by HasNoPeers ends status log is tell = λ told no. let same : told.items ≡ ends = cc in subst (λ (xs : List PeerEnd). EndsTell xs log) (sym same) tell
 stands_by IsTired ends status log is tell = λ told no. cc
 stands_by HasEnded ends status log is tell = λ told no. cc
 
 -- where it tells of none
-pub stands_unsaid : (log : Log) → TellsEnds OutFault log
+pub stands_unsaid : (log : Log) → AnswerTellsEnds OutFault log
 stands_unsaid log = λ told no. cc
 
 -- the run came to its end, and its text was written, or the sink has failed
 pub kept_told : (log : Option Log) (counts : Chains → ℕ → Type 0) (watch names : List (List ℕ)) (o : Outcome) (status : Status) (recorded trace : Bool) (before after : Option (List ℕ))
     → IfSome log (IsOutcome counts (once watch) names o) → IfSome log (λ l. SyncTheorem watch o.height o.tip o.history l)
     → IsAnswerOf o.end status before after (run_text trace o.trace.items o.end o.history o.height o.tip)
-    → ((l : Log) → EndsTell o.ends.items l → TellsEnds status l)
+    → ((l : Log) → EndsTell o.ends.items l → AnswerTellsEnds status l)
     → IfSome log (λ l. KeptOnce status recorded trace watch names before after l)
 kept_told None counts watch names o status recorded trace before after is theorem answer stands = tt
 kept_told (Some log) counts watch names o status recorded trace before after is theorem answer stands =

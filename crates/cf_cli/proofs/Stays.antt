@@ -27,6 +27,7 @@ use Rattle.cf_peer.specs.Trail.{trail}
 use Rattle.cf_sync.specs.Fetching.{AreBytes, IsConnected, IsQuiet, RightlyIn, following}
 use Rattle.cf_sync.specs.Growing.{FollowTheorem, IsTold, OthersShowNone}
 use Rattle.cf_sync.specs.Putting.{ArePut, WerePut}
+use Rattle.cf_run.proofs.Turns.{told_so}
 use Rattle.cf_sync.proofs.Follows.{growing_never}
 use Rattle.cf_sync.proofs.LastText.{last_text}
 use Rattle.cf_wires.specs.Log.{Log, Told, Tells}
@@ -38,7 +39,7 @@ use Rattle.cf_answers.specs.declared.status.Status.TheVariants.{Done, NoMemory, 
 use Rattle.cf_loading.specs.Verdicts.{IsOfFile}
 use Rattle.cf_offline.specs.Reading.{CountsOut}
 use Rattle.cf_cli.specs.Handed.{CountsOn}
-use Rattle.cf_cli.specs.Following.{BegunTexts, CutShort, EndsBy, GivenUp, Grows, IsReplayedIn, IsReplayedOn, KeptLive, KeptOn, KeptOnOver, KeptOnTape, Stayed, TalliedOn, WasOverOn, with_trace}
+use Rattle.cf_cli.specs.Following.{BegunTexts, CutShort, EndsBy, GivenUp, Grows, IsReplayedIn, IsReplayedOn, KeptLive, KeptOn, KeptOnOver, KeptOnTape, CameToEnd, TalliedOn, WasOverOn, with_trace}
 use Rattle.cf_answers.specs.Statuses.{has_run, is_over, was_refused, was_unbegun}
 use Rattle.cf_cli.specs.Theorem.{AnswersTo, IsComplete, IsOfRun, IsWatchFile}
 use Rattle.cf_cli.proofs.Plays.{early_replayed, early_tallied, early_watch, ended_as, no_run, not_run, run_tallied, spent_tallied, unwritten_tallied}
@@ -245,7 +246,7 @@ tape_begun trace lines old now bytes text before after none same is n low writte
 -- ---- a run that is over
 
 stayed_kept : (status : Status) (recorded trace : Bool) (scripts names : List (List ℕ)) (before after : Option (List ℕ)) (log : Log)
-    → (s : Stayed status trace scripts names before after log) → FollowTheorem scripts s.run.height s.run.tip s.run.entries log → KeptOn status recorded trace scripts names before after log
+    → (s : CameToEnd status trace scripts names before after log) → FollowTheorem scripts s.run.height s.run.tip s.run.entries log → KeptOn status recorded trace scripts names before after log
 stayed_kept status recorded trace scripts names before after log s theorem = record {
   last = λ p blocks first top grows told none quiet over.
       last_written scripts trace s.run.lines s.texts before after log s.puts s.written p blocks first top grows told none
@@ -253,10 +254,10 @@ stayed_kept status recorded trace scripts names before after log s theorem = rec
   complete = λ p blocks first grows.
       complete_by s.run.end s.ends status recorded s.answered
       (somebody_left s.run.end log p s.run.followed.why (theorem.somebody p blocks first grows.apart grows.growing));
-  never = λ p blocks first grows ne. theorem.never p blocks first grows.apart grows.growing;
+  never = λ p blocks first grows. theorem.never p blocks first grows.apart grows.growing;
   ran = λ over. s;
   begun = λ off. absurd (both_ways (is_over status) off (over_by s.run.end s.ends status s.answered));
-  right = λ ne. (s.run.followed.asked.bytes, s.run.followed.asked.rightly);
+  right = (s.run.followed.asked.bytes, s.run.followed.asked.rightly);
   run = λ ne. inr s.run.followed.run;
 }
 
@@ -311,7 +312,7 @@ unwritten_told None scripts names o recorded trace before after short theorem = 
 unwritten_told (Some log) scripts names o recorded trace before after short theorem = record {
   last = λ p blocks first top grows told none quiet over. absurd (false≢true over);
   complete = λ p blocks first grows. tt;
-  never = λ p blocks first grows ne. theorem.never p blocks first grows.apart grows.growing;
+  never = λ p blocks first grows. theorem.never p blocks first grows.apart grows.growing;
   ran = λ over. absurd (false≢true over);
   begun = λ off. record {
     lines = short.run.lines;
@@ -320,7 +321,7 @@ unwritten_told (Some log) scripts names o recorded trace before after short theo
     puts = inr short.puts;
     begun = short.begun;
   };
-  right = λ ne. (short.run.followed.asked.bytes, short.run.followed.asked.rightly);
+  right = (short.run.followed.asked.bytes, short.run.followed.asked.rightly);
   run = λ ne. inr short.run.followed.run;
 }
 
@@ -334,10 +335,10 @@ failed_told None scripts names recorded before after but right run = tt
 failed_told (Some log) scripts names recorded before after but right run = record {
   last = λ p blocks first top grows told none quiet over. absurd (false≢true over);
   complete = λ p blocks first grows. tt;
-  never = λ p blocks first grows ne. growing_never log p blocks first right.0 right.1 grows.apart grows.growing;
+  never = λ p blocks first grows. growing_never log p blocks first right.0 right.1 grows.apart grows.growing;
   ran = λ over. absurd (false≢true over);
   begun = λ off. some_begun scripts before after log (inr but);
-  right = λ ne. right;
+  right = right;
   run = λ ne. inr run;
 }
 
@@ -354,23 +355,23 @@ failed_given (Some log) scripts names before after old new but risen = record {
 
 -- memory was wanting
 spent_kept : (recorded trace : Bool) (scripts names : List (List ℕ)) (before after : Option (List ℕ)) (log : Log) → BegunTexts trace scripts before after log
-    → KeptOn NoMemory recorded trace scripts names before after log
-spent_kept recorded trace scripts names before after log begun = record {
+    → AreBytes log × RightlyIn Following log → KeptOn NoMemory recorded trace scripts names before after log
+spent_kept recorded trace scripts names before after log begun right = record {
   last = λ p blocks first top grows told none quiet over. absurd (false≢true over);
   complete = λ p blocks first grows. tt;
-  never = λ p blocks first grows ne. absurd (ne refl);
+  never = λ p blocks first grows. growing_never log p blocks first right.0 right.1 grows.apart grows.growing;
   ran = λ over. absurd (false≢true over);
   begun = λ off. begun;
-  right = λ ne. absurd (ne refl);
+  right = right;
   run = λ ne. absurd (ne refl);
 }
 
 -- with what was put until then
 pub spent_told : (o : Option Log) (scripts names : List (List ℕ)) (recorded : Bool) (before after : Option (List ℕ)) → IfSome o (λ log. HasPutSome scripts log before after)
-    → IfSome o (λ log. KeptOn NoMemory recorded false scripts names before after log)
-spent_told None scripts names recorded before after put = tt
-spent_told (Some log) scripts names recorded before after put =
-    spent_kept recorded false scripts names before after log (some_begun scripts before after log put)
+    → IfSome o (λ log. AreBytes log × RightlyIn Following log) → IfSome o (λ log. KeptOn NoMemory recorded false scripts names before after log)
+spent_told None scripts names recorded before after put right = tt
+spent_told (Some log) scripts names recorded before after put right =
+    spent_kept recorded false scripts names before after log (some_begun scripts before after log put) right
 
 spent_so : (scripts names : List (List ℕ)) (before after : Option (List ℕ)) (old new : ℕ) (log : Log)
     → HasPutSome scripts log before after → (new ≡ old) ⊎ HasPutBut scripts log before after
@@ -392,19 +393,22 @@ spent_given (Some log) scripts names before after old new same put =
 
 -- before anything was written
 pub silent_told : (o : Option Log) (scripts names : List (List ℕ)) (recorded trace : Bool) (first told before : Option (List ℕ))
-    → IfSome o (λ log. HasPutSome scripts log first told) → IfSome o (λ log. KeptOn NoMemory recorded trace scripts names before before log)
-silent_told None scripts names recorded trace first told before put = tt
-silent_told (Some log) scripts names recorded trace first told before put =
-    spent_kept recorded trace scripts names before before log (some_unwritten trace scripts first told before log (some_begun scripts first told log put))
+    → IfSome o (λ log. HasPutSome scripts log first told) → IfSome o (λ log. AreBytes log × RightlyIn Following log)
+    → IfSome o (λ log. KeptOn NoMemory recorded trace scripts names before before log)
+silent_told None scripts names recorded trace first told before put right = tt
+silent_told (Some log) scripts names recorded trace first told before put right =
+    spent_kept recorded trace scripts names before before log (some_unwritten trace scripts first told before log (some_begun scripts first told log put)) right
 
 -- before anything passed
 pub fresh_told : (o : Option Log) (scripts names : List (List ℕ)) (recorded trace : Bool) (before : Option (List ℕ)) → IfSome o (λ log. log ≡ [])
     → IfSome o (λ log. KeptOn NoMemory recorded trace scripts names before before log)
-fresh_told o scripts names recorded trace before none = silent_told o scripts names recorded trace before before before (new_put_told o scripts before none)
+fresh_told o scripts names recorded trace before none =
+    silent_told o scripts names recorded trace before before before (new_put_told o scripts before none)
+    (told_so o [] (λ log. AreBytes log × RightlyIn Following log) none (tt, tt))
 
 -- ---- a run that is recorded
 
-stayed_begun : (status : Status) (trace : Bool) (scripts names : List (List ℕ)) (before after : Option (List ℕ)) (log : Log) → Stayed status trace scripts names before after log
+stayed_begun : (status : Status) (trace : Bool) (scripts names : List (List ℕ)) (before after : Option (List ℕ)) (log : Log) → CameToEnd status trace scripts names before after log
     → BegunTexts trace scripts before after log
 stayed_begun status trace scripts names before after log s = record {
   lines = s.run.lines;
@@ -464,16 +468,16 @@ refused_by (NotAddress cause) is begun off enough = absurd is
 stayed_or_refused : (status : Status) (recorded : Bool) (scripts names : List (List ℕ)) (before after : Option (List ℕ)) (old new : ℕ) (log : Log)
     → IsOfRun status → was_refused status ≡ false → status ≢ NoMemory → KeptOn status recorded false scripts names before after log
     → GivenUp status scripts names before after old new log
-    → ((ended : Status) × Stayed ended false scripts names before after log) ⊎ (HasPutBut scripts log before after × HasRisen old new)
+    → ((ended : Status) × CameToEnd ended false scripts names before after log) ⊎ (HasPutBut scripts log before after × HasRisen old new)
 stayed_or_refused status recorded scripts names before after old new log is begun enough kept given = by (is_over status) refl where
   by : (b : Bool) → is_over status ≡ b
-      → ((ended : Status) × Stayed ended false scripts names before after log) ⊎ (HasPutBut scripts log before after × HasRisen old new)
+      → ((ended : Status) × CameToEnd ended false scripts names before after log) ⊎ (HasPutBut scripts log before after × HasRisen old new)
   by true over = inl (status, kept.ran over)
   by false off = inr (given.refused (refused_by status is begun off enough))
 
 -- what was put of them then
 given_by : (scripts names : List (List ℕ)) (before after : Option (List ℕ)) (old new : ℕ) (log : Log)
-    → ((ended : Status) × Stayed ended false scripts names before after log) ⊎ (HasPutBut scripts log before after × HasRisen old new)
+    → ((ended : Status) × CameToEnd ended false scripts names before after log) ⊎ (HasPutBut scripts log before after × HasRisen old new)
     → (new ≡ old) ⊎ HasPutBut scripts log before after
     → GivenUp FileFault scripts names before after old new log
 given_by scripts names before after old new log (inl stayed) tells =
@@ -513,10 +517,10 @@ unrecorded_on None status recorded scripts names before after enough on kept = t
 unrecorded_on (Some log) status recorded scripts names before after enough on kept = record {
   last = λ p blocks first top grows told none quiet over. absurd (false≢true over);
   complete = λ p blocks first grows. on;
-  never = λ p blocks first grows ne. (kept recorded).never p blocks first grows enough;
+  never = (kept recorded).never;
   ran = λ over. absurd (false≢true over);
   begun = λ off. kept_begun status recorded false scripts names before after log (kept recorded);
-  right = λ ne. (kept recorded).right enough;
+  right = (kept recorded).right;
   run = λ ne. (kept recorded).run enough;
 }
 
@@ -525,7 +529,7 @@ pub spent_on : (o : Option Log) (status : Status) (recorded : Bool) (scripts nam
     → ((b : Bool) → IfSome o (λ log. KeptOn status b false scripts names before after log)) → IfSome o (λ log. KeptOn NoMemory recorded false scripts names before after log)
 spent_on None status recorded scripts names before after kept = tt
 spent_on (Some log) status recorded scripts names before after kept =
-    spent_kept recorded false scripts names before after log (kept_begun status recorded false scripts names before after log (kept recorded))
+    spent_kept recorded false scripts names before after log (kept_begun status recorded false scripts names before after log (kept recorded)) (kept recorded).right
 
 -- ---- where no run was made
 
@@ -534,10 +538,10 @@ early_kept_on : (status : Status) (recorded trace : Bool) (scripts names : List 
 early_kept_on status recorded trace scripts names b log off none = subst (λ (l : Log). KeptOn status recorded trace scripts names b b l) (sym none) (record {
   last = λ p blocks first top grows told alone quiet over. absurd (false≢true grows.growing.dialled);
   complete = λ p blocks first grows. absurd (false≢true grows.growing.dialled);
-  never = λ p blocks first grows ne. tt;
+  never = λ p blocks first grows. tt;
   ran = λ over. absurd (both_ways (is_over status) (not_over status off) over);
   begun = λ is. record { lines = []; traced = inr (inl refl); texts = []; puts = inl refl; begun = nothing_begun (with_trace trace [] []) b };
-  right = λ ne. (tt, tt);
+  right = (tt, tt);
   run = λ ne. inl refl;
 })
 
@@ -565,7 +569,7 @@ early_told_on t status recorded files watch names b n is fresh = told_over t.log
   told_over : (o : Option Log) → IfSome o (λ l. l ≡ []) → IfSome o (λ log. KeptLive status recorded files watch names b b n n log)
   told_over None none = tt
   told_over (Some log) none = record {
-    over = early_over_on status recorded false files watch names b log is none;
+    kept = early_over_on status recorded false files watch names b log is none;
     given_up = early_given status _ names b n log is none;
   }
 
@@ -574,7 +578,7 @@ pub tape_watch_on : (status : Status) (trace : Bool) (files : Option Named) (wat
     → IsWatchFile files watch scripts → was_refused status ≡ false → KeptOn status false trace scripts names before after log
     → (status ≡ OutFault → CutShort trace scripts names before after log) → KeptOnTape status trace files watch names before after log
 tape_watch_on status trace files watch scripts names before after log read begun kept refused = record {
-  over = record { scripts = scripts; watched = λ made. read; unwatched = inr read; kept = kept };
+  kept = record { scripts = scripts; watched = λ made. read; unwatched = inr read; kept = kept };
   refused = refused;
   unrecorded = λ is. absurd (false≢true (sym begun ∙ ap was_refused is));
 }
@@ -586,7 +590,7 @@ pub told_over_watch_on : (o : Option Log) (status : Status) (recorded : Bool) (f
     → IfSome o (λ log. KeptLive status recorded files watch names before after old new log)
 told_over_watch_on None status recorded files watch scripts names before after old new read kept given = tt
 told_over_watch_on (Some log) status recorded files watch scripts names before after old new read kept given = record {
-  over = record { scripts = scripts; watched = λ made. read; unwatched = inr read; kept = kept };
+  kept = record { scripts = scripts; watched = λ made. read; unwatched = inr read; kept = kept };
   given_up = given;
 }
 
@@ -650,7 +654,7 @@ was_over_on HasEnded names turns t within over = inr (inr (within.ended refl))
 early_on_tape : (status : Status) (trace : Bool) (files : Option Named) (watch : List ℕ) (names : List (List ℕ)) (b : Option (List ℕ)) (log : Log) → IsOfFile status → log ≡ []
     → KeptOnTape status trace files watch names b b log
 early_on_tape status trace files watch names b log file none = record {
-  over = early_over_on status false trace files watch names b log file none;
+  kept = early_over_on status false trace files watch names b log file none;
   refused = λ is. absurd (not_run status OutFault (no_run status file) refl is);
   unrecorded = λ is. none;
 }

@@ -58,7 +58,7 @@ pub record IsSyncing (status : Status) (turns : ℕ) (file : Option (List ℕ)) 
   pub dialled : HasDialled peers after.wires
   pub records : Records status file after.wires.log before.files after.files
 
--- all that is promised of `replay`, with `--follow` or without: the same over the tape, and that it plays the session
+-- all that is promised of `replay`, with `--follow` or without: what `IsReplayedIn` says over the tape, and that it plays the session
 pub record IsReplaying (follow : Bool) (status : Status) (trace : Bool) (watch session : List ℕ) (before after : Around) : Type 0 where
   pub replayed : IsReplayedIn follow status most_turns trace before.files watch before.written after.written before.tape after.tape after.taped
   pub plays : IfSome before.files (λ m. IfSome (finite.get m session) (λ bytes. PlaysSession status (session_of bytes) after.taped))

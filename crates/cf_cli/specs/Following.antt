@@ -24,16 +24,16 @@ use Rattle.cf_answers.specs.declared.status.Status.{Status}
 use Rattle.cf_answers.specs.declared.status.Status.TheVariants.{Done, NoMemory, FileFault, OutFault}
 use Rattle.cf_answers.specs.Texts.{trace_text}
 use Rattle.cf_answers.specs.Statuses.{is_over}
-use Rattle.cf_cli.specs.Theorem.{AnswersTo, IsComplete, IsReplayed, KeptOverWatch, Tallied, WasFollowed}
+use Rattle.cf_cli.specs.Theorem.{AnswersTo, IsComplete, IsReplayed, KeptOverWatch, Tallied, RanBy}
 
 -- the trace before other bytes, where it is asked for
 abbrev pub with_trace : Bool → List TraceLine → List ℕ → List ℕ
 with_trace true lines bytes = trace_text lines ++ bytes
 with_trace false lines bytes = bytes
 
--- a run that follows came to its end, by the log, and the texts of all its quiet moments were written whole
-pub record Stayed (status : Status) (trace : Bool) (scripts names : List (List ℕ)) (before after : Option (List ℕ)) (log : Log) : Type 0 where
-  pub run : WasFollowed (following scripts) names log
+-- a run that follows came to its end, by the log, and the texts of all its moments at rest were written whole
+pub record CameToEnd (status : Status) (trace : Bool) (scripts names : List (List ℕ)) (before after : Option (List ℕ)) (log : Log) : Type 0 where
+  pub run : RanBy (following scripts) names log
   pub ends : List PeerEnd
   pub stands : EndsTell ends log
   pub answered : AnswersTo run.end ends status
@@ -43,12 +43,12 @@ pub record Stayed (status : Status) (trace : Bool) (scripts names : List (List �
 
 -- the same where the sink has failed at the end: a beginning of those texts was written, behind the trace where it is asked for
 pub record CutShort (trace : Bool) (scripts names : List (List ℕ)) (before after : Option (List ℕ)) (log : Log) : Type 0 where
-  pub run : WasFollowed (following scripts) names log
+  pub run : RanBy (following scripts) names log
   pub texts : List (List ℕ)
   pub puts : ArePut scripts log texts
   pub begun : HasBegun (with_trace trace run.lines (joined texts)) before after
 
--- where it failed: a beginning of the trace, where it is asked for, and of the texts of the quiet moments was written
+-- where it failed: a beginning of the trace, where it is asked for, and of the texts of the moments at rest was written
 pub record BegunTexts (trace : Bool) (scripts : List (List ℕ)) (before after : Option (List ℕ)) (log : Log) : Type 0 where
   pub lines : List TraceLine
   pub traced : (trace ≡ false) ⊎ ((after ≡ before) ⊎ IsTraceOf log (reverse lines))
@@ -68,7 +68,7 @@ pub record GivenUp (status : Status) (scripts names : List (List ℕ)) (before a
       → HasPut scripts log before after ⊎ (HasPutBut scripts log before after × HasRisen old new)
   pub refused : status ≡ OutFault → HasPutBut scripts log before after × HasRisen old new
   pub unrecorded : status ≡ FileFault → (log ≡ [])
-      ⊎ (((ended : Status) × Stayed ended false scripts names before after log) ⊎ (HasPutBut scripts log before after × HasRisen old new))
+      ⊎ (((ended : Status) × CameToEnd ended false scripts names before after log) ⊎ (HasPutBut scripts log before after × HasRisen old new))
   pub tells : (new ≡ old) ⊎ HasPutBut scripts log before after
 
 -- a peer whose chain grows up to these blocks, over a log whose strings, with those of the blocks and of their filters, don't clash
@@ -87,17 +87,17 @@ pub record EndsBy (trace : Bool) (scripts : List (List ℕ)) (text : List ℕ) (
 -- The follow theorem for the program. Whatever peers send: where the chain of one of them grows as it answers, no other connected peer has shown another
 -- chain at least as long as the one that it told of last, and nothing is open when the run is over, then what was written last is exactly the history that a plain
 -- scan of every block of that chain gives for the watched scripts, with its tip; no answer comes but for the end of the deliveries, a sink that fails, want of
--- memory, or a record that can't be written; and that peer is never closed, of which only the answer NoMemory says nothing. Of whatever is answered else the
--- run went by the rules as far as it came.
+-- memory, or a record that can't be written; and that peer is never closed. Whatever is answered: what came were bytes, what was sent might be sent, who was closed
+-- deserved it, and a delivery was taken only while a peer was connected; and unless memory was wanting the run went by the rules as far as it came.
 pub record KeptOn (status : Status) (recorded trace : Bool) (scripts names : List (List ℕ)) (before after : Option (List ℕ)) (log : Log) : Type 0 where
   pub last : (p : ℕ) (blocks : List Block) (first top : ℕ) → Grows log p blocks first → IsTold blocks first (trail log p) top
       → OthersShowNone log p (take top blocks) → IsQuiet log → is_over status ≡ true
       → EndsBy trace scripts (history_text (scan_of (take top blocks) scripts) (length (take top blocks)) (top_hash (take top blocks))) before after log
   pub complete : (p : ℕ) (blocks : List Block) (first : ℕ) → Grows log p blocks first → IsComplete status recorded
-  pub never : (p : ℕ) (blocks : List Block) (first : ℕ) → Grows log p blocks first → status ≢ NoMemory → IsNeverClosed log p
-  pub ran : is_over status ≡ true → Stayed status trace scripts names before after log
+  pub never : (p : ℕ) (blocks : List Block) (first : ℕ) → Grows log p blocks first → IsNeverClosed log p
+  pub ran : is_over status ≡ true → CameToEnd status trace scripts names before after log
   pub begun : is_over status ≡ false → BegunTexts trace scripts before after log
-  pub right : status ≢ NoMemory → AreBytes log × RightlyIn Following log
+  pub right : AreBytes log × RightlyIn Following log
   pub run : status ≢ NoMemory → (log ≡ []) ⊎ WasRun (following scripts) names log
 
 -- the same over a watch file
@@ -108,15 +108,15 @@ KeptOnOver status recorded trace files watch names before after log =
 -- the same of `follow`, which puts each text at once, and no trace, with what was put where the run was given up
 pub record KeptLive (status : Status) (recorded : Bool) (files : Option Named) (watch : List ℕ) (names : List (List ℕ))
     (before after : Option (List ℕ)) (old new : ℕ) (log : Log) : Type 0 where
-  pub over : KeptOnOver status recorded false files watch names before after log
-  pub given_up : GivenUp status over.scripts names before after old new log
+  pub kept : KeptOnOver status recorded false files watch names before after log
+  pub given_up : GivenUp status kept.scripts names before after old new log
 
 -- the same of `replay --follow`, which writes its texts once the run is over: where the sink fails, the run came to its end, and where a file fails none was
 -- begun
 pub record KeptOnTape (status : Status) (trace : Bool) (files : Option Named) (watch : List ℕ) (names : List (List ℕ))
     (before after : Option (List ℕ)) (log : Log) : Type 0 where
-  pub over : KeptOnOver status false trace files watch names before after log
-  pub refused : status ≡ OutFault → CutShort trace over.scripts names before after log
+  pub kept : KeptOnOver status false trace files watch names before after log
+  pub refused : status ≡ OutFault → CutShort trace kept.scripts names before after log
   pub unrecorded : status ≡ FileFault → log ≡ []
 
 -- what is promised over any wires: the same as of `sync`, and Done only where the turns are taken, or the wires have no more to give

@@ -15,7 +15,8 @@ use Rattle.cf_run.specs.declared.trace.TraceLine.{TraceLine}
 use Rattle.cf_place.specs.Standing.{EndsTell}
 use Rattle.cf_run.specs.Run.{RanTo, NobodyLeft}
 use Rattle.cf_run.specs.Texts.{IsOver}
-use Rattle.cf_sync.specs.Fetching.{IsBusy, IsQuiet, Rule, once}
+use Rattle.cf_peer.specs.declared.mode.Mode.TheVariants.{Once}
+use Rattle.cf_sync.specs.Fetching.{AreBytes, IsBusy, IsQuiet, RightlyIn, Rule, once}
 use Rattle.cf_sync.specs.Honesty.{IsHonest, ShowsNoOther, IsNeverClosed}
 use Rattle.cf_sync.specs.Sync.{IsHashed}
 use Rattle.cf_wires.specs.Dials.{goes_as_made}
@@ -41,11 +42,11 @@ IsAnswerOf end OutFault before after text = (n : ℕ) × (after ≡ with_more be
 IsAnswerOf end status before after text = ⊥
 
 -- where the answer tells how each peer stands, this is what the log says of it
-abbrev pub TellsEnds : Status → Log → Type 0
-TellsEnds status log = (ends : Vec PeerEnd Global) → status ≡ NoPeers ends → EndsTell ends.items log
+abbrev pub AnswerTellsEnds : Status → Log → Type 0
+AnswerTellsEnds status log = (ends : Vec PeerEnd Global) → status ≡ NoPeers ends → EndsTell ends.items log
 
 -- a run over a log that went by this rule, and how it ended, by the log
-pub record WasFollowed (rule : Rule) (names : List (List ℕ)) (log : Log) : Type 0 where
+pub record RanBy (rule : Rule) (names : List (List ℕ)) (log : Log) : Type 0 where
   pub end : End
   pub height : ℕ
   pub tip : Hash32
@@ -55,21 +56,21 @@ pub record WasFollowed (rule : Rule) (names : List (List ℕ)) (log : Log) : Typ
 
 -- a run over a log: how it ended, by the log, and what was written of it
 pub record Ran (status : Status) (trace : Bool) (scripts names : List (List ℕ)) (before after : Option (List ℕ)) (log : Log) : Type 0 where
-  pub run : WasFollowed (once scripts) names log
+  pub run : RanBy (once scripts) names log
   pub answered : IsAnswerOf run.end status before after (run_text trace run.lines run.end run.entries run.height run.tip)
-  pub stands : TellsEnds status log
+  pub stands : AnswerTellsEnds status log
 
 -- where the files tell: the watch file is there, and these are its scripts
 abbrev pub IsWatchFile : Option Named → List ℕ → List (List ℕ) → Type 0
 IsWatchFile files watch scripts = IfSome files (λ m. IsSomeAnd (finite.get m watch) (λ bytes. watch_of bytes ≡ Ok scripts))
 
 -- Done, or the answer of a sink that fails, of want of memory, or of a record that can't be written
-abbrev pub Settles : Status → Bool → Type 0
-Settles Done recorded = Unit {0}
-Settles OutFault recorded = Unit {0}
-Settles NoMemory recorded = Unit {0}
-Settles FileFault recorded = recorded ≡ true
-Settles status recorded = ⊥
+abbrev pub IsDoneOrFault : Status → Bool → Type 0
+IsDoneOrFault Done recorded = Unit {0}
+IsDoneOrFault OutFault recorded = Unit {0}
+IsDoneOrFault NoMemory recorded = Unit {0}
+IsDoneOrFault FileFault recorded = recorded ≡ true
+IsDoneOrFault status recorded = ⊥
 
 -- the answers where a peer is honest to the end of what is taken
 abbrev pub IsComplete : Status → Bool → Type 0
@@ -89,15 +90,17 @@ pub record Serves (log : Log) (p : ℕ) (blocks : List Block) : Type 0 where
 -- The sync theorem for the program. Whatever peers send: where one of them answers as the serving machine of a chain of blocks does, and no
 -- connected peer has shown another chain at least as long, a run that answers Done has written exactly the history that a plain scan of every block of
 -- that chain gives for the watched scripts, with its tip; it answers Done where no request is open at the end, unless the sink fails, memory is
--- wanting, or the record that was asked for can't be written; and it never closes that peer, of which only the answer NoMemory says nothing.
+-- wanting, or the record that was asked for can't be written; and it never closes that peer. Whatever is answered: what came were bytes, what was sent
+-- might be sent, who was closed deserved it, and a delivery was taken only while something was open.
 pub record KeptOnce (status : Status) (recorded trace : Bool) (scripts names : List (List ℕ)) (before after : Option (List ℕ)) (log : Log) : Type 0 where
   pub writes : (p : ℕ) (blocks : List Block) → Serves log p blocks → ShowsNoOther log blocks → status ≡ Done → trace ≡ false
       → after ≡ with_more before (history_text (scan_of blocks scripts) (length blocks) (tip_hash (headers_of blocks)))
-  pub answers : (p : ℕ) (blocks : List Block) → Serves log p blocks → IsQuiet log → Settles status recorded
+  pub answers : (p : ℕ) (blocks : List Block) → Serves log p blocks → IsQuiet log → IsDoneOrFault status recorded
   pub complete : (p : ℕ) (blocks : List Block) → Serves log p blocks → IsComplete status recorded
-  pub never : (p : ℕ) (blocks : List Block) → Serves log p blocks → status ≢ NoMemory → IsNeverClosed log p
+  pub never : (p : ℕ) (blocks : List Block) → Serves log p blocks → IsNeverClosed log p
   pub ran : has_run status ≡ true → Ran status trace scripts names before after log
-  pub unrecorded : status ≡ FileFault → (log ≡ []) ⊎ WasFollowed (once scripts) names log
+  pub right : AreBytes log × RightlyIn Once log
+  pub unrecorded : status ≡ FileFault → (log ≡ []) ⊎ RanBy (once scripts) names log
 
 -- what is promised of a run, with the scripts of the watch file, which was there wherever a run was made or anything has passed
 pub record KeptOverWatch (status : Status) (files : Option Named) (watch : List ℕ) (log : Log) (Kept : List (List ℕ) → Type 0) : Type 0 where

@@ -23,7 +23,7 @@ use cf_scan::Watch;
 use cf_wires::Wires;
 use std::alloc::Global;
 
-// Follows the peers of these names over new wires, and puts the text of each quiet moment to `out` at once.
+// Follows the peers of these names over new wires, and puts the text of each moment at rest to `out` at once.
 fn follow_live<W: Wires, H: HeaderStore + Drop, M: Matcher + Drop, O: Sink>(
     alloc: Global,
     wires: &mut W,
@@ -70,8 +70,8 @@ fn follow_live<W: Wires, H: HeaderStore + Drop, M: Matcher + Drop, O: Sink>(
 }
 
 /// Follows the chains that the peers of these names show as they grow, and puts the history of the watched scripts and
-/// the tip at each quiet moment, unless they are those that were put last. The wires are new, and not finished. Where a
-/// file is named for the log, its session lines are written to it at the end, also where a text could not be put. How
+/// the tip at each moment at rest, unless they are those that were put last. The wires are new, and not finished. Where
+/// a file is named for the log, its session lines are written to it at the end, also where a text could not be put. How
 /// each peer stands once the run is over is put into `ends`, in the order of their numbers.
 #[tactic(auto, using(crate::proofs::Asking::unwritten))]
 pub(crate) fn follow_and_record<F: Files, W: Wires, M: Matcher + Drop, O: Sink>(
@@ -144,8 +144,8 @@ fn behind_trace(
     Ok(text)
 }
 
-/// The same over wires that are a tape: the trace is written where it is asked for, and then the texts of all quiet
-/// moments, once the run is over.
+/// The same over wires that are a tape: the trace is written where it is asked for, and then the texts of all moments
+/// at rest, once the run is over.
 pub(crate) fn follow_on_tape<W: Wires, M: Matcher + Drop, O: Sink>(
     alloc: Global,
     wires: &mut W,

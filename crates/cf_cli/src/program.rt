@@ -410,8 +410,8 @@ where
 /// `NoMemory` may come in place of any other answer. `Usage` comes where the words ask for nothing. The watch file is
 /// judged first, then the session file: what is missing, refused or good is answered so. After that the run is made; a
 /// record of it, where `sync` is asked for one, is put into its file; and its text is written. `follow` writes the text
-/// of each quiet moment at once, and its record at the end; `replay --follow` writes the texts of all of them after the
-/// trace. With `NoMemory`, `Usage`, `BadFile` and `FileFault` no text was written, but by a `follow` whose run was
+/// of each moment at rest at once, and its record at the end; `replay --follow` writes the texts of all of them after
+/// the trace. With `NoMemory`, `Usage`, `BadFile` and `FileFault` no text was written, but by a `follow` whose run was
 /// begun. With the last three no wires were used, but for a `FileFault` that comes where the record can't be written;
 /// `sync` and `follow` alone use `wires`, `replay` alone `tape`, `demo` alone `played`, `serve` alone `link`. The log
 /// of `wires` is kept only where a record is asked for. `make` puts its records into its file; of the other commands

@@ -1,6 +1,7 @@
 pub mod Courses
 pub mod AlikeParts
 pub mod Performs
+pub mod Rights
 pub mod Ticked
 pub mod Turns
 pub mod Dialling

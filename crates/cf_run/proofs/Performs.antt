@@ -334,6 +334,26 @@ skipped_close acts progress called planned t p cause is may doing =
 reverse_push : (xs : List TraceLine) (x : TraceLine) → reverse (xs ++ x ∷ []) ≡ x ∷ reverse xs
 reverse_push xs x = reverse-append xs (x ∷ [])
 
+-- what is sent may be, by the log as it is
+pub sent_rightly : {rule : Rule} (acts : List Act) (progress : Progress) (called : List (List ℕ)) (planned : Log) (t : Told) (p : PeerNo)
+    (m : Msg) → is_pending (state_at progress.sends p.0) ≡ false → MayAct rule (Send p m) planned
+    → (doing : Doing rule (Send p m ∷ acts) progress called planned t) → RightlyIn rule.mode (Sent p (bytes_of m) ∷ doing.actual)
+sent_rightly {rule = rule} acts progress called planned t p m free may doing =
+    let on : is_connected (trail planned p.0) ≡ true = asked_on rule.mode (trail planned p.0) m may.2.of_its_part in
+    let told : is_untold doing.actual p.0 ≡ false = known_told (Send p m ∷ acts) progress called planned t p.0 free on doing in
+    let same : part_of planned p.0 ≡ part_of doing.actual p.0 = planned_part planned doing.actual p.0 doing.plan told on in (
+      (
+        m,
+        spelled_bytes m may.1,
+        record {
+          of_its_part = subst (λ (x : Part). MayAskIn rule.mode x.trail m) same may.2.of_its_part;
+          wanted = same_wanted planned doing.actual doing.brought m may.2.wanted;
+          alone = alone_too (Send p m ∷ acts) progress called planned t doing p.0 m same may.2.alone;
+        },
+      ),
+      doing.notes.rightly,
+    )
+
 -- a message is sent
 pub sent_on : {rule : Rule} (acts : List Act) (progress : Progress) (trace : Vec TraceLine Global) (called : List (List ℕ)) (planned : Log) (t : Told) (p : PeerNo) (m : Msg) (command : List ℕ)
     → is_pending (state_at progress.sends p.0) ≡ false → trace.items ≡ progress.trace.items ++ SentLine p command ∷ [] → command ≡ command_of m
@@ -344,29 +364,17 @@ sent_on {rule = rule} acts progress trace called planned t p m command free line
     let spells : spelled bytes ≡ Some m = spelled_bytes m may.1 in
     let on : is_connected (trail planned p.0) ≡ true = asked_on rule.mode (trail planned p.0) m may.2.of_its_part in
     let told : is_untold doing.actual p.0 ≡ false = known_told (Send p m ∷ acts) progress called planned t p.0 free on doing in
-    let same : part_of planned p.0 ≡ part_of doing.actual p.0 = planned_part planned doing.actual p.0 doing.plan told on in
     let other : (q : ℕ) → is_untold doing.actual q ≡ true → q ≢ p.0 = λ q untold e. both_ways (is_untold doing.actual q) (ap (is_untold doing.actual) e ∙ told) untold in
     record {
       actual = Sent p bytes ∷ doing.actual;
       notes = record {
         tells = tells_more doing.actual t (Sent p bytes) doing.notes.tells;
         bytes = doing.notes.bytes;
-        rightly = (
-          (
-            m,
-            spells,
-            record {
-              of_its_part = subst (λ (x : Part). MayAskIn rule.mode x.trail m) same may.2.of_its_part;
-              wanted = same_wanted planned doing.actual doing.brought m may.2.wanted;
-              alone = alone_too (Send p m ∷ acts) progress called planned t doing p.0 m same may.2.alone;
-            },
-          ),
-          doing.notes.rightly,
-        );
+        rightly = sent_rightly acts progress called planned t p m free may doing;
         planned = ((m, spells, (planned, (doing.plan, (may.2, may.3)))), doing.notes.planned);
         order = doing.notes.order;
         pinged = doing.notes.pinged;
-        in_time = doing.notes.in_time;
+        asked_out = doing.notes.asked_out;
         numbered = doing.notes.numbered;
         first = doing.notes.first;
         traced = subst (λ (lines : List TraceLine). IsTraceOf (Sent p bytes ∷ doing.actual) lines) (sym (ap reverse line ∙ reverse_push progress.trace.items (SentLine p command)))
@@ -436,7 +444,7 @@ closed_on acts progress trace called planned t p cause free line may doing =
         planned = doing.notes.planned;
         order = (replied_all, doing.notes.order);
         pinged = doing.notes.pinged;
-        in_time = doing.notes.in_time;
+        asked_out = doing.notes.asked_out;
         numbered = doing.notes.numbered;
         first = doing.notes.first;
         traced = subst (λ (lines : List TraceLine). IsTraceOf (Closed p ∷ doing.actual) lines) (sym (ap reverse line ∙ reverse_push progress.trace.items (ClosedLine p cause)))
@@ -598,7 +606,7 @@ failed_on {rule = rule} acts progress called planned t p m lt free may doing =
         planned = doing.notes.planned;
         order = (on_too, doing.notes.order);
         pinged = doing.notes.pinged;
-        in_time = doing.notes.in_time;
+        asked_out = doing.notes.asked_out;
         numbered = doing.notes.numbered;
         first = doing.notes.first;
         traced = doing.notes.traced;
@@ -695,15 +703,22 @@ may_send {rule = rule} acts progress called planned t p m free may doing = elim 
       (ap (λ (x : Part). is_connected x.trail) (sym (planned_part planned doing.actual p.0 doing.plan told on)) ∙ on))
 ]
 
+-- of the acts that are left this one is the next
+pub next_left : {rule : Rule} (acts : List Act) (i : ℕ) (a : Act) (end : Log) (progress : Progress) (called : List (List ℕ)) (t : Told)
+    → i < length acts → a ≡ get_or acts i a
+    → ActsLeft rule (drop i acts) end progress called t → ActsLeft rule (a ∷ drop (suc i) acts) end progress called t
+next_left {rule = rule} acts i a end progress called t lt is left =
+    subst (λ (xs : List Act). ActsLeft rule xs end progress called t)
+    (drop-cons acts i a lt ∙ ap (λ (x : Act). x ∷ drop (suc i) acts) (sym is)) left
+
 -- one more act is done
 pub acts_more : {rule : Rule} (acts : List Act) (i : ℕ) (a : Act) (end : Log) (progress next : Progress) (called : List (List ℕ)) (t u : Told)
     → i < length acts → a ≡ get_or acts i a
     → ActsLeft rule (drop i acts) end progress called t
     → ((more : List Act) (called : List (List ℕ)) (planned : Log) → MayAct rule a planned → Doing rule (a ∷ more) progress called planned t → Doing rule more next called (entry_of a ∷ planned) u)
     → ActsLeft rule (drop (i + 1) acts) end next called u
-acts_more {rule = rule} acts i a end progress next called t u lt is left step =
-    let cut : drop i acts ≡ a ∷ drop (suc i) acts = drop-cons acts i a lt ∙ ap (λ (x : Act). x ∷ drop (suc i) acts) (sym is) in
-    let l : ActsLeft rule (a ∷ drop (suc i) acts) end progress called t = subst (λ (xs : List Act). ActsLeft rule xs end progress called t) cut left in
+acts_more acts i a end progress next called t u lt is left step =
+    let l = next_left acts i a end progress called t lt is left in
     rw add-one (record {
       planned = entry_of a ∷ l.planned;
       allowed = l.allowed.1;
@@ -752,7 +767,7 @@ told_one rest progress called planned t p cause lt is doing =
         planned = doing.notes.planned;
         order = doing.notes.order;
         pinged = doing.notes.pinged;
-        in_time = doing.notes.in_time;
+        asked_out = doing.notes.asked_out;
         numbered = doing.notes.numbered;
         first = doing.notes.first;
         traced = doing.notes.traced;
@@ -805,6 +820,14 @@ told_one rest progress called planned t p cause lt is doing =
         | inr ne ↦ absurd (both_ways (is_pending (state_at progress.sends q)) (sym (ap is_pending (there q ne)) ∙ clear) (only (is_pending (state_at progress.sends q)) (doing.due q untold)))
       ];
     }
+
+-- and its close is the first of the acts that are to be done
+pub told_now : {rule : Rule} {acts more rest : List Act} {progress next : Progress} (called : List (List ℕ)) (planned : Log) (t : Told) (p : PeerNo)
+    (cause : Cause) → p.0 < length progress.sends → is_pending (state_at progress.sends p.0) ≡ true
+    → acts ≡ Close p cause ∷ rest → more ≡ acts → next ≡ record progress { sends = set progress.sends p.0 Known }
+    → Doing rule [] progress called planned t → Doing rule more next called (SendFailed p ∷ planned) t
+told_now {rest = rest} {progress = progress} called planned t p cause lt is first same told doing =
+    rw (told, same ∙ first) (told_one rest progress called planned t p cause lt is doing)
 
 -- with no failure pending the client reflects the actual log
 pub all_told : {H M : Type 0} {g : Ghosts H} {j : Judges M} (c : Client H M g j) (progress : Progress) (called : List (List ℕ)) (planned : Log) (t : Told) → ((q : ℕ) → is_pending (state_at progress.sends q) ≡ false)

@@ -177,15 +177,7 @@ by_rule c watch follows same =
     subst (λ (w : List (List ℕ)). rule_by c ≡ following w) same
     (subst (λ (m : Mode). rule_by c ≡ record { watch = watch_by c; mode = m }) follows refl)
 
--- the run's log is one of bytes, and right
-right_now : {H M : Type 0} {g : Ghosts H} {j : Judges M} (c : Client H M g j) (progress : Progress)
-    (called : List (List ℕ)) (t : Told) → HoldsOver c progress called t → (rule_by c).mode ≡ Following
-    → IfSome t.log (λ log. AreBytes log × RightlyIn Following log)
-right_now c progress called t holds follows =
-    told_so t.log holds.actual (λ log. AreBytes log × RightlyIn Following log) holds.notes.tells.content
-    (holds.notes.bytes, subst (λ (m : Mode). RightlyIn m holds.actual) follows holds.notes.rightly)
-
--- and was run
+-- the log is that of a run
 run_now : {H M : Type 0} {g : Ghosts H} {j : Judges M} (c : Client H M g j) (progress : Progress)
     (called : List (List ℕ)) (t : Told) (rule : Rule) → HoldsOver c progress called t → rule_by c ≡ rule
     → IfSome t.log (WasRun rule called)
@@ -258,7 +250,6 @@ some_by {c = c} {progress = progress} {called = called} {t = t} {watch = watch} 
           (more.due holds.actual holds.reflects holds.notes.bytes
           (subst (λ (m : Mode). RightlyIn m holds.actual) putting.follows holds.notes.rightly)));
       begun = subst (λ (o : Option (List ℕ)). HasBegun more.text o new) putting.have.taken more.begun;
-      right = right_now c progress called t holds putting.follows;
       run = run_now c progress called t (following watch) holds (by_rule c watch putting.follows putting.watched);
     }
 
@@ -357,7 +348,6 @@ gives_up NoMemory told faults watch called t before after some dials fine risen 
     is_short told faults watch t before after some (fine refl)
 gives_up Failed told faults watch called t before after but dials fine risen = record {
   put = but_told watch called t (told before) (told after) but;
-  right = but.right;
   run = but.run;
   dialled = dials;
   risen = risen refl;
@@ -370,4 +360,4 @@ pub gives_finished : {T : Type 0} (fail : TextFail) (told : T → Option (List �
     (told_finished t) before after
 gives_finished NoMemory told faults watch called t before after short = short
 gives_finished Failed told faults watch called t before after cut =
-    record { put = cut.put; right = cut.right; run = cut.run; dialled = cut.dialled; risen = cut.risen }
+    record { put = cut.put; run = cut.run; dialled = cut.dialled; risen = cut.risen }

@@ -113,7 +113,7 @@ dial_doing c acts progress called t p name holds is room untaken unended =
       planned = holds.notes.planned;
       order = holds.notes.order;
       pinged = holds.notes.pinged;
-      in_time = holds.notes.in_time;
+      asked_out = holds.notes.asked_out;
       numbered = (is ∙ ap (λ (n : ℕ). n + 1) count, holds.notes.numbered);
       first = (untaken_so holds.actual t holds.notes.tells untaken unended, holds.notes.first);
       traced = holds.notes.traced;
@@ -143,7 +143,7 @@ not_dialled_holds c d progress called t p name holds is room untaken unended sam
         planned = subst (λ (r : Rule). ArePlanned r holds.actual) (sym same) holds.notes.planned;
         order = holds.notes.order;
         pinged = subst (λ (r : Rule). WerePinged r.mode holds.actual) (sym same) holds.notes.pinged;
-        in_time = subst (λ (r : Rule). WereAskedOut r holds.actual) (sym same) holds.notes.in_time;
+        asked_out = subst (λ (r : Rule). WereAskedOut r holds.actual) (sym same) holds.notes.asked_out;
         numbered = (is ∙ ap (λ (n : ℕ). n + 1) count, holds.notes.numbered);
         first = (untaken_so holds.actual t holds.notes.tells untaken unended, holds.notes.first);
         traced = holds.notes.traced;
@@ -186,7 +186,7 @@ took_notes progress called log t d is notes may in_order ticked asked_out = reco
   planned = notes.planned;
   order = (in_order, notes.order);
   pinged = (ticked, notes.pinged);
-  in_time = (asked_out, notes.in_time);
+  asked_out = (asked_out, notes.asked_out);
   numbered = notes.numbered;
   first = notes.first;
   traced = notes.traced;
@@ -407,7 +407,7 @@ was_run c progress called t holds = record {
   named = holds.notes.named;
   pinged = holds.notes.pinged;
   ticked = holds.ticked;
-  in_time = holds.notes.in_time;
+  asked_out = holds.notes.asked_out;
 }
 
 -- what a run that stopped has done
@@ -597,7 +597,7 @@ starts c progress t reflects unused tells =
         planned = tt;
         order = tt;
         pinged = tt;
-        in_time = tt;
+        asked_out = tt;
         numbered = tt;
         first = tt;
         traced = subst (λ (xs : List TraceLine). IsTraceOf [] (reverse xs)) (sym unused.trace) tt;

@@ -65,7 +65,7 @@ pub record Notes (rule : Rule) (progress : Progress) (called : List (List ℕ)) 
   pub planned : ArePlanned rule actual
   pub order : WasOrderly actual
   pub pinged : WerePinged rule.mode actual
-  pub in_time : WereAskedOut rule actual
+  pub asked_out : WereAskedOut rule actual
   pub numbered : AreNumbered actual
   pub first : AreDialledFirst actual
   pub traced : IsTraceOf actual (reverse progress.trace.items)

@@ -23,7 +23,7 @@ use Rattle.cf_peer.specs.Asking.{is_open, pings}
 use Rattle.cf_scan.specs.declared.history.Entry.{Entry}
 use Rattle.cf_headers.specs.Chain.{NoHashClash}
 use Rattle.cf_sync.specs.Blame.{AreBlamed}
-use Rattle.cf_sync.specs.Fetching.{IsBusy, IsQuiet, IsConnected, Rule, is_after_tick, DeservesIn}
+use Rattle.cf_sync.specs.Fetching.{AreBytes, IsBusy, IsQuiet, IsConnected, RightlyIn, Rule, is_after_tick, DeservesIn}
 use Rattle.cf_holds.specs.Due.{ArePlanned}
 use Rattle.cf_sync.specs.Planned.{is_untold}
 use Rattle.cf_sync.specs.Sync.{HasAskedIn, IsHashed}
@@ -42,6 +42,11 @@ AreBytesOf (Got p piece) = IsBytes piece
 AreBytesOf (Gone p) = Unit {0}
 AreBytesOf (Tick s) = Unit {0}
 AreBytesOf Ended = Unit {0}
+
+-- where the log is told: what came were bytes, what was sent might be sent, who was closed deserved it, and a delivery was taken only while something was
+-- open, or by a client that follows while a peer was connected
+abbrev pub IsRight : Mode → Told → Type 0
+IsRight mode t = IfSome t.log (λ log. AreBytes log × RightlyIn mode log)
 
 -- At a moment between two calls of the client: nobody who is connected deserves a cause, nor claims a filter that was tested and omits something; each was sent the client's version first, and what is
 -- owed to its messages; and each peer to which a send has failed was closed.
@@ -169,7 +174,7 @@ pub record WasRun (rule : Rule) (called : List (List ℕ)) (log : Log) : Type 0 
   pub named : names_of log ≡ called
   pub pinged : WerePinged rule.mode log
   pub ticked : IsTicked rule.mode log
-  pub in_time : WereAskedOut rule log
+  pub asked_out : WereAskedOut rule log
 
 -- What a run that ended so has done, by its log. With nothing open each connected peer was heard out, and its filter header is known at each block that its own
 -- chain shares with the best one; and each of the best chain's blocks is settled. With nothing open what each claims of the fetched blocks on which they differ was

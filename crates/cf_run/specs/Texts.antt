@@ -113,15 +113,13 @@ pub record SoPut (watch : List (List ℕ)) (t : Told) (before now : Option (List
   pub puts : PutBefore watch texts t ⊎ PutBy watch texts t
   pub taken : now ≡ with_more before (joined texts)
 
--- all texts were put, before the last delivery, and a beginning of the one that is due now; and the log is right so far, and that of a run which dialled these
--- names
+-- all texts were put, before the last delivery, and a beginning of the one that is due now; and the log is that of a run which dialled these names
 pub record ButPut (watch called : List (List ℕ)) (t : Told) (before now : Option (List ℕ)) : Type 0 where
   pub texts : List (List ℕ)
   pub text : List ℕ
   pub earlier : PutBefore watch texts t
   pub due : IfSome t.log (λ log. PutsAt watch log texts (text ∷ texts))
   pub begun : HasBegun text (with_more before (joined texts)) now
-  pub right : IfSome t.log (λ log. AreBytes log × RightlyIn Following log)
   pub run : IfSome t.log (WasRun (following watch) called)
 
 -- what was put of a run that failed so

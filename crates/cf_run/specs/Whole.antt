@@ -3,7 +3,6 @@ use Rattle.std.specs.Prelude.{◌≡◌, ◌↔◌, ℕ, ◌≤◌, ◌<◌, Boo
 use Rattle.cf_bytes.specs.Outside.{HasRisen}
 use Rattle.cf_client.specs.Holding.{HoldsNoMore}
 use Rattle.cf_headers.specs.Store.{Chains}
-use Rattle.cf_peer.specs.declared.mode.Mode.TheVariants.{Following}
 use Rattle.cf_place.specs.Standing.{EndsTell, Greeting}
 use Rattle.cf_run.specs.Run.{Course, RanTo, HasDialled, HasFailed, NobodyLeft, WasRun}
 use Rattle.cf_run.specs.Texts.{HasPut, HasPutBut, HasPutSo}
@@ -13,7 +12,7 @@ use Rattle.cf_run.specs.declared.outcome.End.TheVariants.{NoPeers, Tired, Ended}
 use Rattle.cf_run.specs.declared.outcome.Outcome.{Outcome}
 use Rattle.cf_run.specs.declared.texts.TextFail.{TextFail}
 use Rattle.cf_run.specs.declared.texts.TextFail.TheVariants.{NoMemory, Failed}
-use Rattle.cf_sync.specs.Fetching.{AreBytes, RightlyIn, Rule, following}
+use Rattle.cf_sync.specs.Fetching.{Rule, following}
 use Rattle.cf_wires.specs.Log.{Log, Tally, Tells, Told}
 use Rattle.cf_wires.specs.Wires.{Made}
 
@@ -62,11 +61,10 @@ pub record IsShort {T : Type 0} (told : T → Option (List ℕ)) (faults : T →
   pub put : IfSome log (λ l. HasPutSo watch l (told before) (told after))
   pub fine : faults after ≡ faults before
 
--- The run ended early over a text: of that, which was due, a beginning was put, or nothing, and the run was right until
--- then. Since the run began the count of faults has risen.
+-- The run ended early over a text: of that, which was due, a beginning was put, or nothing, and the run went by the rules
+-- until then. Since the run began the count of faults has risen.
 pub record IsCut {T : Type 0} (told : T → Option (List ℕ)) (faults : T → ℕ) (watch names : List (List ℕ)) (wires : Told) (before after : T) : Type 0 where
   pub put : IfSome wires.log (λ log. HasPutBut watch log (told before) (told after))
-  pub right : IfSome wires.log (λ log. AreBytes log × RightlyIn Following log)
   pub run : IfSome wires.log (WasRun (following watch) names)
   pub dialled : wires.tally.dials ≡ length names
   pub risen : HasRisen (faults before) (faults after)

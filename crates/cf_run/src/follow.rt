@@ -1,11 +1,11 @@
-//! A run that follows: the dials, the deliveries, and the texts of its quiet moments.
-ghost use Rattle.std.specs.Prelude.{◌≡◌, ◌≢◌, ℕ, None, ◌<◌, ◌≤◌, ◌+◌, ◌∷◌, [], List, Option, OnOk, IfOk, IfErr, IfSome, IsErrOf, Some, false, length, string_bytes, if◌then◌else◌};
+//! A run that follows: the dials, the deliveries, and the texts of its moments at rest.
+ghost use Rattle.std.specs.Prelude.{◌≡◌, ◌≢◌, ℕ, None, ◌<◌, ◌≤◌, ◌+◌, ◌∷◌, [], List, Option, OnOk, OnErr, IfOk, IfErr, IfSome, IsErrOf, Some, false, length, string_bytes, if◌then◌else◌};
 ghost use Rattle.cf_bytes.specs.{HasRisen};
 ghost use Rattle.cf_client.specs.{Reflects, count_of, rule_by, watch_by, greeting_by};
 ghost use Rattle.cf_peer.specs.declared.mode.Mode.TheVariants.{Following};
 ghost use Rattle.cf_run.specs.Names.{names_in};
 ghost use Rattle.cf_run.specs.Passing.{Passes};
-ghost use Rattle.cf_run.specs.Run.{IsEnd};
+ghost use Rattle.cf_run.specs.Run.{IsEnd, IsRight};
 ghost use Rattle.cf_run.specs.Moments.{EndsTurns, HoldsOver, IsInStep, Stopped, TakesTurns, Turned, Turns, run_state};
 ghost use Rattle.cf_run.specs.Texts.{AllPut, HavePut, IsLast, IsOver, PutBefore, PutsBegun, PutsNext, PutsOne, PutsSome, SomePut};
 ghost use Rattle.cf_run.specs.Versions.{KeepsGreeting};
@@ -104,7 +104,7 @@ fn end_of_wires<H: HeaderStore, M: Matcher>(client: &Client<H, M>) -> End
     }
 }
 
-// Puts the text of a quiet moment, and takes the next delivery, unless no peer is connected.
+// Puts the text of a moment at rest, and takes the next delivery, unless no peer is connected.
 fn follow_turn<W: Wires, H: HeaderStore, M: Matcher, T: Texts>(
     alloc: Global,
     wires: &mut W,
@@ -132,6 +132,8 @@ fn follow_turn<W: Wires, H: HeaderStore, M: Matcher, T: Texts>(
         → watch_by client.old ≡ watch → HoldsOver client.old progress.old called (W.told wires.old)
         → HavePut watch last.old (W.told wires.old) first (T.told texts.old)
         → SomePut fail watch called (W.told wires.new) first (T.told texts.new)) }
+    ensures right { OnErr result ((called : List (List ℕ)) → HoldsOver client.old progress.old called (W.told wires.old)
+        → IsRight (rule_by client.old).mode (W.told wires.new)) }
     ensures versions { (called : List (List ℕ)) → HoldsOver client.old progress.old called (W.told wires.old)
         → KeepsGreeting (greeting_by client.old) (W.told wires.old) (W.told wires.new) }
     ensures rule { OnOk result (rule_by client.new ≡ rule_by client.old) }
@@ -165,7 +167,7 @@ fn follow_turn<W: Wires, H: HeaderStore, M: Matcher, T: Texts>(
     Ok(Some(end_of_wires(client)))
 }
 
-// Takes turns until the run ends, and puts the text of each quiet moment.
+// Takes turns until the run ends, and puts the text of each moment at rest.
 fn follow_turns<W: Wires, H: HeaderStore, M: Matcher, T: Texts>(
     alloc: Global,
     wires: &mut W,
@@ -188,6 +190,8 @@ fn follow_turns<W: Wires, H: HeaderStore, M: Matcher, T: Texts>(
     ensures put_some { IfErr result (λ fail. (watch called : List (List ℕ)) → watch_by client.old ≡ watch
         → HoldsOver client.old progress.old called (W.told wires.old) → PutBefore watch [] (W.told wires.old)
         → SomePut fail watch called (W.told wires.new) (T.told texts.old) (T.told texts.new)) }
+    ensures right { OnErr result ((called : List (List ℕ)) → HoldsOver client.old progress.old called (W.told wires.old)
+        → IsRight (rule_by client.old).mode (W.told wires.new)) }
     ensures versions { (called : List (List ℕ)) → HoldsOver client.old progress.old called (W.told wires.old)
         → KeepsGreeting (greeting_by client.old) (W.told wires.old) (W.told wires.new) }
     ensures rule { OnOk result (rule_by client.new ≡ rule_by client.old) }
@@ -252,6 +256,7 @@ fn follow_all<W: Wires, H: HeaderStore + Drop, M: Matcher + Drop, T: Texts>(
     ensures done { IfOk result (λ o. o.end ≡ End.Synced → IsOver turns (W.told wires.new).tally) }
     ensures passes { Passes W.told W.faults W.script W.keeps (record { moment = moment; number = nonce })
         (names_in names.now) turns wires.old wires.new }
+    ensures right { IsRight Following (W.told wires.new) }
     ensures put { OnOk result (PutsAll T.told T.faults watch (W.told wires.new).log texts.old texts.new) }
     ensures cut { IfErr result (λ fail.
         GivesUp fail T.told T.faults watch (names_in names.now) (W.told wires.new) texts.old texts.new) }
@@ -269,7 +274,8 @@ fn follow_all<W: Wires, H: HeaderStore + Drop, M: Matcher + Drop, T: Texts>(
 /// which nothing is open and a peer is connected the text of the history and the tip is put, unless it is the last one
 /// that was put. It ends with `Synced` where the turns are taken or the wires give no more with nothing open, and a
 /// peer is connected. The wires are new: nothing has passed them, and they aren't finished. They are finished once,
-/// whatever is answered. In the store no peer is entered.
+/// whatever is answered; and whatever is, what was sent might be sent, and who was closed deserved it. In the store no
+/// peer is entered.
 pub fn follow_over<W: Wires, H: HeaderStore + Drop, M: Matcher + Drop, T: Texts>(
     alloc: Global,
     wires: &mut W,
@@ -293,6 +299,7 @@ pub fn follow_over<W: Wires, H: HeaderStore + Drop, M: Matcher + Drop, T: Texts>
     ensures done { IfOk result (λ o. o.end ≡ End.Synced → IsOver turns (W.told wires.new).tally) }
     ensures wires { LeavesWires W.told W.faults W.script W.keeps (record { moment = moment; number = nonce })
         (names_in names.now) turns wires.old wires.new }
+    ensures right { IsRight Following (W.told wires.new) }
     ensures put { OnOk result (PutsAll T.told T.faults watch (W.told wires.new).log texts.old texts.new) }
     ensures cut { IfErr result (λ fail.
         GivesUp fail T.told T.faults watch (names_in names.now) (W.told wires.new) texts.old texts.new) }

@@ -1,11 +1,11 @@
 //! The run of a client over any wires: the dials, the turns, and the finish.
-ghost use Rattle.std.specs.Prelude.{◌≡◌, ◌≢◌, ℕ, None, ◌<◌, ◌≤◌, ◌+◌, ◌∷◌, ◌++◌, [], List, OnOk, IfOk, IfNone, IfSome, IsErrOf, true, false, length};
+ghost use Rattle.std.specs.Prelude.{◌≡◌, ◌≢◌, ℕ, None, ◌<◌, ◌≤◌, ◌+◌, ◌∷◌, ◌++◌, [], List, OnOk, OnErr, IfOk, IfNone, IfSome, IsErrOf, true, false, length};
 ghost use Rattle.cf_run.specs.Names.{names_in};
 ghost use Rattle.cf_sync.specs.{MayTake, Rule, once, SyncTheorem};
 ghost use Rattle.cf_run.specs.Texts.{PutBefore, PutBy};
 ghost use Rattle.cf_place.specs.{MayAct, Allowed, after, entry_of, ActTells, Greeting, TellsGreeting};
 ghost use Rattle.cf_run.specs.Passing.{CountsOne, Passes};
-ghost use Rattle.cf_run.specs.Run.{AreBytesOf, HasDialled, HasNames, IsEnd, IsTicked};
+ghost use Rattle.cf_run.specs.Run.{AreBytesOf, HasDialled, HasNames, IsEnd, IsRight, IsTicked};
 ghost use Rattle.cf_run.specs.Moments.{Doing, HoldsOver, run_state, Runs, Performs, Dials, Turns, IsOneMore, Turned, Stopped, IsInStep, IsEndTold, EndsTurns, TakesTurns};
 ghost use Rattle.cf_client.specs.{Reflects, Answers, count_of, rule_by, greeting_by};
 ghost use Rattle.cf_run.specs.Versions.{KeepsGreeting};
@@ -15,6 +15,7 @@ ghost use Rattle.cf_bytes.specs.{IsBytes};
 ghost use Rattle.cf_msg.specs.{command_of};
 ghost use Rattle.cf_peer.specs.declared.act.Act.{Act};
 ghost use Rattle.cf_peer.specs.declared.act.Act.TheVariants.{Send, Close};
+ghost use Rattle.cf_peer.specs.declared.mode.Mode.TheVariants.{Once};
 ghost use Rattle.cf_peer.specs.{IsDoable, IsSendable, bytes_of};
 ghost use Rattle.cf_wires.specs.{Told, tell, HasCause};
 ghost use Rattle.cf_wires.specs.Log.{Log};
@@ -75,6 +76,10 @@ fn perform_send<W: Wires>(
         → MayAct rule (Send p message.now) planned
         → Doing rule (Send p message.now ∷ more) progress.old called planned (W.told wires.old)
         → Doing rule more progress.new called (Sent p (bytes_of message.now) ∷ planned) (W.told wires.new)) }
+    ensures right { OnErr result ((rule : Rule) (more : List Act) (called : List (List ℕ)) (planned : Log)
+        → MayAct rule (Send p message.now) planned
+        → Doing rule (Send p message.now ∷ more) progress.old called planned (W.told wires.old)
+        → IsRight rule.mode (W.told wires.new)) }
     ensures versions { (words : Greeting) → TellsGreeting words message.now
         → KeepsGreeting words (W.told wires.old) (W.told wires.new) }
     ensures performs { Performs
@@ -111,6 +116,10 @@ fn perform_close<W: Wires>(
         → MayAct rule (Close p cause) planned
         → Doing rule (Close p cause ∷ more) progress.old called planned (W.told wires.old)
         → Doing rule more progress.new called (Closed p ∷ planned) (W.told wires.new)) }
+    ensures right { OnErr result ((rule : Rule) (more : List Act) (called : List (List ℕ)) (planned : Log)
+        → MayAct rule (Close p cause) planned
+        → Doing rule (Close p cause ∷ more) progress.old called planned (W.told wires.old)
+        → IsRight rule.mode (W.told wires.new)) }
     ensures versions { (words : Greeting) → KeepsGreeting words (W.told wires.old) (W.told wires.new) }
     ensures performs { Performs
         (run_state (W.told wires.old) (W.faults wires.old) (W.script wires.old) (W.keeps wires.old) progress.old)
@@ -141,6 +150,9 @@ fn perform_act<W: Wires>(
     ensures doing { OnOk result ((rule : Rule) (more : List Act) (called : List (List ℕ)) (planned : Log)
         → MayAct rule act.now planned → Doing rule (act.now ∷ more) progress.old called planned (W.told wires.old)
         → Doing rule more progress.new called (entry_of act.now ∷ planned) (W.told wires.new)) }
+    ensures right { OnErr result ((rule : Rule) (more : List Act) (called : List (List ℕ)) (planned : Log)
+        → MayAct rule act.now planned → Doing rule (act.now ∷ more) progress.old called planned (W.told wires.old)
+        → IsRight rule.mode (W.told wires.new)) }
     ensures versions { (words : Greeting) → ActTells words act.now
         → KeepsGreeting words (W.told wires.old) (W.told wires.new) }
     ensures performs { Performs
@@ -172,6 +184,9 @@ fn perform_acts<W: Wires>(
     ensures doing { OnOk result ((rule : Rule) (called : List (List ℕ)) (planned : Log)
         → Allowed rule acts.now planned → Doing rule acts.now progress.old called planned (W.told wires.old)
         → Doing rule [] progress.new called (after acts.now planned) (W.told wires.new)) }
+    ensures right { OnErr result ((rule : Rule) (called : List (List ℕ)) (planned : Log)
+        → Allowed rule acts.now planned → Doing rule acts.now progress.old called planned (W.told wires.old)
+        → IsRight rule.mode (W.told wires.new)) }
     ensures versions { (words : Greeting) → All (ActTells words) acts.now
         → KeepsGreeting words (W.told wires.old) (W.told wires.new) }
     ensures performs { Performs
@@ -198,6 +213,9 @@ fn settle<W: Wires, H: HeaderStore, M: Matcher>(
         → Doing (rule_by client.old) [] progress.old called planned (W.told wires.old)
         → IsTicked (rule_by client.old).mode planned
         → HoldsOver client.new progress.new called (W.told wires.new)) }
+    ensures right { OnErr result ((called : List (List ℕ)) (planned : Log) → Reflects client.old planned
+        → Doing (rule_by client.old) [] progress.old called planned (W.told wires.old)
+        → IsRight (rule_by client.old).mode (W.told wires.new)) }
     ensures versions { (called : List (List ℕ)) (planned : Log)
         → Reflects client.old planned → Doing (rule_by client.old) [] progress.old called planned (W.told wires.old)
         → KeepsGreeting (greeting_by client.old) (W.told wires.old) (W.told wires.new) }
@@ -231,6 +249,9 @@ fn carry_out<W: Wires, H: HeaderStore, M: Matcher>(
         → Doing (rule_by client.old) acts.now progress.old called log (W.told wires.old)
         → IsTicked (rule_by client.old).mode (after acts.now log)
         → HoldsOver client.new progress.new called (W.told wires.new)) }
+    ensures right { OnErr result ((called : List (List ℕ)) (log : Log) → Answers client.old acts.now log
+        → Doing (rule_by client.old) acts.now progress.old called log (W.told wires.old)
+        → IsRight (rule_by client.old).mode (W.told wires.new)) }
     ensures versions { (called : List (List ℕ)) (log : Log) → Answers client.old acts.now log
         → Doing (rule_by client.old) acts.now progress.old called log (W.told wires.old)
         → All (ActTells (greeting_by client.old)) acts.now
@@ -263,6 +284,9 @@ fn greet<W: Wires, H: HeaderStore, M: Matcher>(
     ensures holds { OnOk result ((called : List (List ℕ)) (log : Log) → Reflects client.old log → ((acts : List Act)
         → Doing (rule_by client.old) acts progress.old called (Dialled p name.now ∷ log) (W.told wires.old))
         → IsTicked (rule_by client.old).mode log → HoldsOver client.new progress.new called (W.told wires.new)) }
+    ensures right { OnErr result ((called : List (List ℕ)) (log : Log) → Reflects client.old log → ((acts : List Act)
+        → Doing (rule_by client.old) acts progress.old called (Dialled p name.now ∷ log) (W.told wires.old))
+        → IsRight (rule_by client.old).mode (W.told wires.new)) }
     ensures versions { (called : List (List ℕ)) (log : Log) → Reflects client.old log → ((acts : List Act)
         → Doing (rule_by client.old) acts progress.old called (Dialled p name.now ∷ log) (W.told wires.old))
         → KeepsGreeting (greeting_by client.old) (W.told wires.old) (W.told wires.new) }
@@ -292,6 +316,8 @@ fn dial_one<W: Wires, H: HeaderStore, M: Matcher>(
     requires open { (W.told wires.old).finished ≡ false }
     ensures holds { OnOk result ((called : List (List ℕ)) → HoldsOver client.old progress.old called (W.told wires.old)
         → HoldsOver client.new progress.new (called ++ name.now ∷ []) (W.told wires.new)) }
+    ensures right { OnErr result ((called : List (List ℕ)) → HoldsOver client.old progress.old called (W.told wires.old)
+        → IsRight (rule_by client.old).mode (W.told wires.new)) }
     ensures versions { (called : List (List ℕ)) → HoldsOver client.old progress.old called (W.told wires.old)
         → KeepsGreeting (greeting_by client.old) (W.told wires.old) (W.told wires.new) }
     ensures counts { OnOk result (CountsOne client.old client.new) }
@@ -343,6 +369,9 @@ pub(crate) fn take_next<W: Wires, H: HeaderStore, M: Matcher>(
         → HoldsOver client.new progress.new called (W.told wires.new)) }
     ensures over { IfOk result (λ more. more ≡ false → (client.new ≡ client.old) × (progress.new ≡ progress.old)
         × (W.told wires.new ≡ tell (Took Ended) (W.told wires.old))) }
+    ensures right { OnErr result ((called : List (List ℕ))
+        (holds : HoldsOver client.old progress.old called (W.told wires.old))
+        → MayTake (rule_by client.old).mode holds.actual → IsRight (rule_by client.old).mode (W.told wires.new)) }
     ensures versions { (called : List (List ℕ)) (holds : HoldsOver client.old progress.old called (W.told wires.old))
         → MayTake (rule_by client.old).mode holds.actual
         → KeepsGreeting (greeting_by client.old) (W.told wires.old) (W.told wires.new) }
@@ -381,6 +410,8 @@ fn take_turn<W: Wires, H: HeaderStore, M: Matcher>(
     ensures turned { IfOk result (λ end. (called : List (List ℕ))
         → HoldsOver client.old progress.old called (W.told wires.old)
         → Turned end client.new progress.new called (W.told wires.new)) }
+    ensures right { OnErr result ((called : List (List ℕ)) → HoldsOver client.old progress.old called (W.told wires.old)
+        → IsRight (rule_by client.old).mode (W.told wires.new)) }
     ensures versions { (called : List (List ℕ)) → HoldsOver client.old progress.old called (W.told wires.old)
         → KeepsGreeting (greeting_by client.old) (W.told wires.old) (W.told wires.new) }
     ensures rule { OnOk result (rule_by client.new ≡ rule_by client.old) }
@@ -424,6 +455,8 @@ fn dial_all<W: Wires, H: HeaderStore, M: Matcher>(
     requires open { (W.told wires.old).finished ≡ false }
     ensures holds { OnOk result (HoldsOver client.old progress.old [] (W.told wires.old)
         → HoldsOver client.new progress.new (names_in names.now) (W.told wires.new)) }
+    ensures right { OnErr result (HoldsOver client.old progress.old [] (W.told wires.old)
+        → IsRight (rule_by client.old).mode (W.told wires.new)) }
     ensures versions { HoldsOver client.old progress.old [] (W.told wires.old)
         → KeepsGreeting (greeting_by client.old) (W.told wires.old) (W.told wires.new) }
     ensures rule { OnOk result (rule_by client.new ≡ rule_by client.old) }
@@ -464,6 +497,7 @@ pub(crate) fn dial_first<W: Wires, H: HeaderStore, M: Matcher>(
     ensures taken { (W.told wires.new).tally.taken ≡ 0 }
     ensures unended { (W.told wires.new).tally.ended ≡ 0 }
     ensures open { (W.told wires.new).finished ≡ false }
+    ensures right { OnErr result (IsRight (rule_by client.old).mode (W.told wires.new)) }
     ensures puts { (watch : List (List ℕ)) → PutBefore watch [] (W.told wires.new) }
     ensures passes { Passes W.told W.faults W.script W.keeps (greeting_by client.old) (names_in names.now) 0
         wires.old wires.new }
@@ -500,6 +534,8 @@ fn take_turns<W: Wires, H: HeaderStore, M: Matcher>(
     ensures stopped { IfOk result (λ end. (called : List (List ℕ))
         → HoldsOver client.old progress.old called (W.told wires.old)
         → Stopped end client.new progress.new called (W.told wires.new)) }
+    ensures right { OnErr result ((called : List (List ℕ)) → HoldsOver client.old progress.old called (W.told wires.old)
+        → IsRight (rule_by client.old).mode (W.told wires.new)) }
     ensures versions { (called : List (List ℕ)) → HoldsOver client.old progress.old called (W.told wires.old)
         → KeepsGreeting (greeting_by client.old) (W.told wires.old) (W.told wires.new) }
     ensures rule { OnOk result (rule_by client.new ≡ rule_by client.old) }
@@ -560,6 +596,7 @@ fn sync_all<W: Wires, H: HeaderStore + Drop, M: Matcher + Drop>(
     ensures outcome { IfOk result
         (λ o. IfSome (W.told wires.new).log (IsOutcome H.counts (once watch) (names_in names.now) o)) }
     ensures within { IfOk result (λ o. EndsWithin o.end (length names.now) turns (W.told wires.new).tally) }
+    ensures right { IsRight Once (W.told wires.new) }
     ensures passes { Passes W.told W.faults W.script W.keeps (record { moment = moment; number = nonce })
         (names_in names.now) turns wires.old wires.new }
 {
@@ -573,7 +610,8 @@ fn sync_all<W: Wires, H: HeaderStore + Drop, M: Matcher + Drop>(
 /// is left, the stated number of deliveries was taken, or the wires give no more. Of its blocks those are fetched on
 /// whose filters the peers differ, or whose filter the matcher doesn't answer with a miss (BIP 157, "Client
 /// Operation"). The wires are new: nothing has passed them, and they aren't finished. They are finished once, whatever
-/// is answered. In the store no peer is entered.
+/// is answered; and whatever is, what was sent might be sent, and who was closed deserved it. In the store no peer is
+/// entered.
 pub fn sync_over<W: Wires, H: HeaderStore + Drop, M: Matcher + Drop>(
     alloc: Global,
     wires: &mut W,
@@ -593,6 +631,7 @@ pub fn sync_over<W: Wires, H: HeaderStore + Drop, M: Matcher + Drop>(
     ensures theorem { IfOk result
         (λ o. IfSome (W.told wires.new).log (λ log. SyncTheorem watch o.height o.tip o.history log)) }
     ensures within { IfOk result (λ o. EndsWithin o.end (length names.now) turns (W.told wires.new).tally) }
+    ensures right { IsRight Once (W.told wires.new) }
     ensures wires { LeavesWires W.told W.faults W.script W.keeps (record { moment = moment; number = nonce })
         (names_in names.now) turns wires.old wires.new }
 {

@@ -48,6 +48,7 @@ returns-in_default-clause-kept g c =
     λ recorded.
     let same : c.follow_over.new.texts.sink.now ≡ c.out-1.given.0 = search rules in
     spent_told (g.W.Wires.told c.follow_over.new.wires).log c.args.watch (names_in c.args.names.now) recorded _ _ (some_put_told (g.W.Wires.told c.follow_over.new.wires).log c.args.watch _ _ (rw (c.new-texts.ensures.same, same) at c.in-Ok.ensures.put.put))
+    c.follow_over.ensures.right
 
 pub returns-in_default-clause-given_up : goal.returns-in_default-clause-given_up
 returns-in_default-clause-given_up g c =
@@ -62,6 +63,7 @@ returns-in-Err-NoMemory-clause-kept g c =
     let same : c.follow_over.new.texts.sink.now ≡ c.out-1.given.0 = search rules in
     let so = rw c.in-Err-NoMemory.field-0-is at c.in-Err-NoMemory.ensures.cut in
     spent_told (g.W.Wires.told c.follow_over.new.wires).log c.args.watch (names_in c.args.names.now) recorded _ _ (some_so_told (g.W.Wires.told c.follow_over.new.wires).log c.args.watch _ _ (rw (c.new-texts.ensures.same, same) at so.put))
+    c.follow_over.ensures.right
 
 pub returns-in-Err-NoMemory-clause-given_up : goal.returns-in-Err-NoMemory-clause-given_up
 returns-in-Err-NoMemory-clause-given_up g c =
@@ -97,7 +99,7 @@ returns-in-Err-Failed-clause-kept g c =
     λ recorded.
     let same : c.follow_over.new.texts.sink.now ≡ c.out-1.given.0 = search rules in
     let cut = rw c.in-Err-Failed.field-0-is at c.in-Err-Failed.ensures.cut in
-    failed_told (g.W.Wires.told c.follow_over.new.wires).log c.args.watch (names_in c.args.names.now) recorded _ _ (rw (c.new-texts.ensures.same, same) at cut.put) cut.right cut.run
+    failed_told (g.W.Wires.told c.follow_over.new.wires).log c.args.watch (names_in c.args.names.now) recorded _ _ (rw (c.new-texts.ensures.same, same) at cut.put) c.follow_over.ensures.right cut.run
 
 pub returns-in-Err-Failed-clause-given_up : goal.returns-in-Err-Failed-clause-given_up
 returns-in-Err-Failed-clause-given_up g c =

@@ -23,17 +23,17 @@ returns-in_default-clause-kept g c =
 pub returns-in-Err-clause-kept : goal.returns-in-Err-clause-kept
 returns-in-Err-clause-kept g c =
     silent_told (g.W.Wires.told c.follow_over.new.wires).log c.args.watch (names_in c.args.names.now) false c.args.trace (Some c.new-texts.result.bytes.items) (Some c.follow_over.new.texts.bytes.items) (g.O.Sink.written c.args.out.now)
-    (some_by_told c.in-Err.field-0 (λ (t : KeptTexts). Some t.bytes.items) (λ (t : KeptTexts). 0) c.args.watch (names_in c.args.names.now) (g.W.Wires.told c.follow_over.new.wires) _ _ c.in-Err.ensures.cut)
+    (some_by_told c.in-Err.field-0 (λ (t : KeptTexts). Some t.bytes.items) (λ (t : KeptTexts). 0) c.args.watch (names_in c.args.names.now) (g.W.Wires.told c.follow_over.new.wires) _ _ c.in-Err.ensures.cut) c.follow_over.ensures.right
 
 pub returns-in_default-ends_of-clause-kept : goal.returns-in_default-ends_of-clause-kept
 returns-in_default-ends_of-clause-kept g c =
     silent_told (g.W.Wires.told c.follow_over.new.wires).log c.args.watch (names_in c.args.names.now) false c.args.trace (Some c.new-texts.result.bytes.items) (Some c.follow_over.new.texts.bytes.items) (g.O.Sink.written c.args.out.now)
-    (some_put_told (g.W.Wires.told c.follow_over.new.wires).log c.args.watch _ _ c.in-Ok-follow_over.ensures.put.put)
+    (some_put_told (g.W.Wires.told c.follow_over.new.wires).log c.args.watch _ _ c.in-Ok-follow_over.ensures.put.put) c.follow_over.ensures.right
 
 pub returns-in_default-behind_trace-clause-kept : goal.returns-in_default-behind_trace-clause-kept
 returns-in_default-behind_trace-clause-kept g c =
     silent_told (g.W.Wires.told c.follow_over.new.wires).log c.args.watch (names_in c.args.names.now) false c.args.trace (Some c.new-texts.result.bytes.items) (Some c.follow_over.new.texts.bytes.items) (g.O.Sink.written c.args.out.now)
-    (some_put_told (g.W.Wires.told c.follow_over.new.wires).log c.args.watch _ _ c.in-Ok-follow_over.ensures.put.put)
+    (some_put_told (g.W.Wires.told c.follow_over.new.wires).log c.args.watch _ _ c.in-Ok-follow_over.ensures.put.put) c.follow_over.ensures.right
 
 pub returns-in_default-clause-tallied : goal.returns-in_default-clause-tallied
 returns-in_default-clause-tallied g c = early_tallied_on NoMemory _ _ _ tt c.requires.fresh

@@ -7,7 +7,9 @@ use Rattle.cf_headers.specs.Counts.{CountsOnce}
 use Rattle.cf_run.specs.Names.{names_in}
 use Rattle.cf_sync.specs.Fetching.{once}
 use Rattle.cf_answers.specs.declared.status.Status.TheVariants.{NoMemory, FileFault, OutFault}
+use Rattle.cf_run.proofs.Rights.{right_new}
 use Rattle.cf_run.proofs.Versions.{new_words}
+use Rattle.cf_peer.specs.declared.mode.Mode.TheVariants.{Once}
 use Rattle.cf_cli.proofs.Runs.{answered, kept_told, kept_without, unrecorded_told, stands_by, stands_unsaid, was_over}
 use Rattle.cf_cli.proofs.Plays.{all_dialled, versions_so, early_tallied, spent_tallied, unwritten_tallied, run_tallied, new_dialled, new_unfailed}
 use Rattle.cf_cli.proofs.Stays.{counts_fine, run_begun}
@@ -45,11 +47,24 @@ returns-in-Err-No-clause-kept g c =
 
 pub returns-in_default-text_of-clause-kept : goal.returns-in_default-text_of-clause-kept
 returns-in_default-text_of-clause-kept g c =
-    kept_without (g.W.Wires.told c.sync_over.new.wires).log c.args.watch (names_in c.args.names.now) (is_some c.args.log_file.now) c.args.trace (g.O.Sink.written c.args.out.now) (g.O.Sink.written c.args.out.now)
+    kept_without (g.W.Wires.told c.sync_over.new.wires).log c.args.watch (names_in c.args.names.now) (is_some c.args.log_file.now) c.args.trace (g.O.Sink.written c.args.out.now) (g.O.Sink.written c.args.out.now) c.sync_over.ensures.right
 
 pub returns-in_default-ends_of-clause-kept : goal.returns-in_default-ends_of-clause-kept
 returns-in_default-ends_of-clause-kept g c =
-    kept_without (g.W.Wires.told c.sync_over.new.wires).log c.args.watch (names_in c.args.names.now) (is_some c.args.log_file.now) c.args.trace (g.O.Sink.written c.args.out.now) (g.O.Sink.written c.args.out.now)
+    kept_without (g.W.Wires.told c.sync_over.new.wires).log c.args.watch (names_in c.args.names.now) (is_some c.args.log_file.now) c.args.trace (g.O.Sink.written c.args.out.now) (g.O.Sink.written c.args.out.now) c.sync_over.ensures.right
+
+pub returns-in_default-sync_over-clause-kept : goal.returns-in_default-sync_over-clause-kept
+returns-in_default-sync_over-clause-kept g c =
+    kept_without (g.W.Wires.told c.sync_over.new.wires).log c.args.watch (names_in c.args.names.now) (is_some c.args.log_file.now) c.args.trace (g.O.Sink.written c.args.out.now) (g.O.Sink.written c.args.out.now) c.sync_over.ensures.right
+
+pub returns-in-Err-NoMemory-clause-kept : goal.returns-in-Err-NoMemory-clause-kept
+returns-in-Err-NoMemory-clause-kept g c =
+    kept_without (g.W.Wires.told c.sync_over.new.wires).log c.args.watch (names_in c.args.names.now) (is_some c.args.log_file.now) c.args.trace (g.O.Sink.written c.args.out.now) (g.O.Sink.written c.args.out.now) c.sync_over.ensures.right
+
+pub returns-in_default-clause-kept : goal.returns-in_default-clause-kept
+returns-in_default-clause-kept g c =
+    kept_without (g.W.Wires.told c.args.wires.now).log c.args.watch (names_in c.args.names.now) (is_some c.args.log_file.now) c.args.trace (g.O.Sink.written c.args.out.now) (g.O.Sink.written c.args.out.now)
+    (right_new Once (g.W.Wires.told c.args.wires.now) c.requires.fresh)
 
 -- ---- its tally
 

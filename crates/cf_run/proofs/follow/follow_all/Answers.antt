@@ -9,6 +9,8 @@ use Rattle.cf_run.specs.Names.{names_in}
 use Rattle.cf_run.specs.Whole.{IsOutcome}
 use Rattle.cf_run.proofs.Passing.{ends_within, passes_none, passes_turns, passes_untaken}
 use Rattle.cf_run.proofs.Puts.{all_some, all_told, gives_up, is_short, none_before, none_put}
+use Rattle.cf_run.proofs.Rights.{holds_right, right_by, right_new}
+use Rattle.cf_peer.specs.declared.mode.Mode.TheVariants.{Following}
 use Rattle.cf_run.proofs.follow.follow_all.Goals as goal
 
 pub returns-clause-outcome : goal.returns-clause-outcome
@@ -106,3 +108,28 @@ returns-clause-done g c = λ is. c.in_ok-end.ensures.done (sym c.in_ok-outcome.e
 pub follow_turns-requires-clause-follows : goal.follow_turns-requires-clause-follows
 follow_turns-requires-clause-follows g c = ap (λ (r : Rule). r.mode)
     (c.in_ok-progress.ensures.rule ∙ c.in_ok-client.ensures.rule)
+
+pub returns-in_err-client-clause-right : goal.returns-in_err-client-clause-right
+returns-in_err-client-clause-right g c = right_new Following (g.W.Wires.told c.args.wires.now) c.requires.wires.log
+
+pub returns-in_err-progress-clause-right : goal.returns-in_err-progress-clause-right
+returns-in_err-progress-clause-right g c = right_by (g.W.Wires.told c.dial_first.new.wires) c.in_ok-client.ensures.rule c.in_err-progress.ensures.right
+
+pub returns-in_err-end-clause-right : goal.returns-in_err-end-clause-right
+returns-in_err-end-clause-right g c =
+    let d = c.in_ok-progress.ensures in
+    right_by (g.W.Wires.told c.follow_turns.new.wires) (d.rule ∙ c.in_ok-client.ensures.rule) (c.in_err-end.ensures.right (names_in c.args.names.now) d.holds)
+
+pub returns-in_err-outcome-clause-right : goal.returns-in_err-outcome-clause-right
+returns-in_err-outcome-clause-right g c =
+    let d = c.in_ok-progress.ensures in
+    let e = c.in_ok-end.ensures in
+    right_by (g.W.Wires.told c.follow_turns.new.wires) (e.rule ∙ d.rule ∙ c.in_ok-client.ensures.rule)
+    (holds_right _ (e.stopped (names_in c.args.names.now) d.holds).holds)
+
+pub returns-clause-right : goal.returns-clause-right
+returns-clause-right g c =
+    let d = c.in_ok-progress.ensures in
+    let e = c.in_ok-end.ensures in
+    right_by (g.W.Wires.told c.follow_turns.new.wires) (e.rule ∙ d.rule ∙ c.in_ok-client.ensures.rule)
+    (holds_right _ (e.stopped (names_in c.args.names.now) d.holds).holds)

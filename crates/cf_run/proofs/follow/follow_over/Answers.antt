@@ -24,6 +24,7 @@ returns g c =
       within = rw end.told all.within;
       done = rw end.told all.done;
       wires = leaves_wires _ _ words c.requires.wires all.passes end.told end.later end.same end.keeps;
+      right = rw end.told all.right;
       put = rw end.told all.put;
       cut = rw end.told
           (IfErr-weaker c.follow_all-outcome.result _ _

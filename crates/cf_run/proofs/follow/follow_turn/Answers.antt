@@ -4,8 +4,9 @@ use Rattle.cf_wires.specs.Log.{Told}
 use Rattle.cf_client.specs.Stands.{rule_by}
 use Rattle.cf_run.proofs.Courses.{runs_self, turns_none}
 use Rattle.cf_run.proofs.Passing.{keeps_next}
-use Rattle.cf_run.proofs.Turns.{ended_stops, holds_same, may_follow, may_held, may_rest, mode_same, reflects_same, rule_same, words_same}
+use Rattle.cf_run.proofs.Turns.{ended_stops, holds_same, may_follow, may_held, may_rest, mode_same, reflects_same, rule_same, words_same, ended_holds}
 use Rattle.cf_run.proofs.Puts.{all_by, have_then, putting_ended, some_by, some_then}
+use Rattle.cf_run.proofs.Rights.{holds_right, right_by}
 use Rattle.cf_run.proofs.follow.follow_turn.Goals as goal
 
 pub returns-in-NoPeers-clause-turned : goal.returns-in-NoPeers-clause-turned
@@ -143,3 +144,21 @@ returns-in-NoPeers-clause-turns g c = turns_none _ _ (runs_self _ c.requires.ste
 
 pub returns-clause-untired : goal.returns-clause-untired
 returns-clause-untired g c = λ is. c.end_of_wires.ensures.untired (cc is)
+
+pub returns-in_err-put_at_rest-clause-right : goal.returns-in_err-put_at_rest-clause-right
+returns-in_err-put_at_rest-clause-right g c = (let p = err_from_is_err_and c.from_residual.result c.from_residual.ensures.1 in rw p.1 (λ called holds. holds_right c.args.client.now holds))
+
+pub returns-in_err-more-clause-right : goal.returns-in_err-more-clause-right
+returns-in_err-more-clause-right g c = (let p = err_from_is_err_and c.from_residual-in_err-more.result c.from_residual-in_err-more.ensures.1 in rw p.1 (λ called holds.
+    let same = c.in_ok-put_at_rest.ensures.same in
+    let held = holds_same {c = c.args.client.now} {d = c.put_at_rest.new.client} same holds in
+    right_by (g.W.Wires.told c.take_next.new.wires) (rule_same same)
+    (c.in_err-more.ensures.right called held (may_held _ same held c.requires.follows c.in_default.not-NoPeers c.state.ensures.state))))
+
+pub returns-in_err-put_at_rest-2-clause-right : goal.returns-in_err-put_at_rest-2-clause-right
+returns-in_err-put_at_rest-2-clause-right g c = (let p = err_from_is_err_and c.from_residual-in_err-put_at_rest-2.result c.from_residual-in_err-put_at_rest-2.ensures.1 in rw p.1 (λ called holds.
+    let rest = c.in_ok-put_at_rest.ensures in
+    let over = c.in_ok-more.ensures.over c.if-more.false in
+    let may = may_rest _ rest.same holds c.requires.follows c.in_default.not-NoPeers c.state.ensures.state in
+    right_by (g.W.Wires.told c.take_next.new.wires) (rule_same (over.0 ∙ rest.same))
+    (holds_right c.take_next.new.client (ended_holds (over.0 ∙ rest.same) over.1 over.2 holds may))))

@@ -8,6 +8,7 @@ use Rattle.cf_run.proofs.Courses.{took_more, took_none, turn_ends, turns_more, t
 use Rattle.cf_run.proofs.Turns.{holds_same, rule_same, stops}
 use Rattle.cf_run.proofs.Versions.{keeps_then}
 use Rattle.cf_run.proofs.Puts.{all_by, none_have, some_by}
+use Rattle.cf_run.proofs.Rights.{holds_right, right_by}
 use Rattle.cf_run.proofs.follow.follow_turns.Goals as goal
 
 pub loop-turn-init : goal.loop-turn-init
@@ -130,3 +131,11 @@ returns-in_err-put_at_rest-clause-takes g c = turns_over c.args.turns _ c.loop-t
 
 pub returns-clause-takes : goal.returns-clause-takes
 returns-clause-takes g c = turns_over c.args.turns _ c.loop-turn.invariant.took (omega arith)
+
+pub returns-in_err-end-clause-right : goal.returns-in_err-end-clause-right
+returns-in_err-end-clause-right g c = (let p = err_from_is_err_and c.from_residual.result c.from_residual.ensures.1 in rw p.1 (λ called holds.
+    let turn = c.loop-turn.invariant in right_by (g.W.Wires.told c.follow_turn.new.wires) turn.rule (c.in_err-end.ensures.right called (turn.holds called holds))))
+
+pub returns-in_err-put_at_rest-clause-right : goal.returns-in_err-put_at_rest-clause-right
+returns-in_err-put_at_rest-clause-right g c = (let p = err_from_is_err_and c.from_residual-in_err-put_at_rest.result c.from_residual-in_err-put_at_rest.ensures.1 in rw p.1 (λ called holds.
+    let turn = c.loop-turn.invariant in right_by (g.W.Wires.told c.loop-turn.wires) turn.rule (holds_right c.loop-turn.client (turn.holds called holds))))

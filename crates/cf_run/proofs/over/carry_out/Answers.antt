@@ -1,3 +1,4 @@
+use Rattle.std.proofs.lemmas.Result.{err_from_is_err_and}
 use Rattle.cf_place.specs.Places.{after}
 use Rattle.cf_client.specs.Stands.{rule_by, greeting_by}
 use Rattle.cf_run.proofs.Courses.{performs_then}
@@ -22,3 +23,12 @@ returns-in_err-settle-clause-versions g c = λ called log answers doing tells ha
 
 pub returns-in_err-perform_acts-clause-versions : goal.returns-in_err-perform_acts-clause-versions
 returns-in_err-perform_acts-clause-versions g c = λ called log answers doing tells has. c.in_err-perform_acts.ensures.versions (greeting_by c.args.client.now) tells has
+
+pub returns-in_err-perform_acts-clause-right : goal.returns-in_err-perform_acts-clause-right
+returns-in_err-perform_acts-clause-right g c = (let p = err_from_is_err_and c.from_residual.result c.from_residual.ensures.1 in rw p.1 (λ called log answers doing.
+    c.in_err-perform_acts.ensures.right (rule_by c.args.client.now) called log answers.allowed doing))
+
+pub returns-in_err-settle-clause-right : goal.returns-in_err-settle-clause-right
+returns-in_err-settle-clause-right g c = (let p = err_from_is_err_and c.from_residual-in_err-settle.result c.from_residual-in_err-settle.ensures.1 in rw p.1 (λ called log answers doing.
+    c.in_err-settle.ensures.right called (after c.args.acts.now log) answers.stand
+    (c.in_ok-perform_acts.ensures.doing (rule_by c.args.client.now) called log answers.allowed doing)))

@@ -1,10 +1,12 @@
 use Rattle.std.proofs.Common.{ℕ, ◌+◌, List, take, sym, ◌∙◌, ap, subst, arith}
+use Rattle.std.proofs.lemmas.Result.{err_from_is_err_and}
 use Rattle.cf_run.specs.Names.{names_in}
 use Rattle.cf_run.specs.Moments.{HoldsOver}
 use Rattle.cf_run.proofs.Courses.{runs_then}
 use Rattle.cf_run.proofs.Dialling.{names_more_as, one_dialled, most_dialled}
 use Rattle.cf_client.specs.Stands.{greeting_by}
 use Rattle.cf_run.proofs.Versions.{keeps_then}
+use Rattle.cf_run.proofs.Rights.{right_by}
 use Rattle.cf_run.proofs.over.dial_all.Goals as goal
 
 pub returns-in_err-dial_one-clause-first : goal.returns-in_err-dial_one-clause-first
@@ -41,3 +43,8 @@ returns-in_err-dial_one-clause-versions g c = λ start.
 
 pub returns-in_err-dial_one-clause-puts : goal.returns-in_err-dial_one-clause-puts
 returns-in_err-dial_one-clause-puts g c = λ watch texts put. c.in_err-dial_one.ensures.dials.puts watch texts (c.loop-name.invariant.puts watch texts put)
+
+pub returns-in_err-dial_one-clause-right : goal.returns-in_err-dial_one-clause-right
+returns-in_err-dial_one-clause-right g c = (let p = err_from_is_err_and c.from_residual.result c.from_residual.ensures.1 in rw p.1 (λ start.
+    right_by (g.W.Wires.told c.dial_one.new.wires) c.loop-name.invariant.rule
+    (c.in_err-dial_one.ensures.right (names_in (take c.loop-name.name-index c.args.names.now)) (c.loop-name.invariant.holds start))))

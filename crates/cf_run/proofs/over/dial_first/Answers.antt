@@ -1,4 +1,5 @@
 use Rattle.std.proofs.Common.{[]}
+use Rattle.std.proofs.lemmas.Result.{err_from_is_err_and}
 use Rattle.cf_run.proofs.Passing.{passes_dials}
 use Rattle.cf_run.proofs.Puts.{none_before}
 use Rattle.cf_run.proofs.Turns.{starts}
@@ -25,3 +26,7 @@ returns-clause-puts g c = λ watch. c.in_ok-dial_all.ensures.puts watch []
 pub returns-in_err-dial_all-clause-puts : goal.returns-in_err-dial_all-clause-puts
 returns-in_err-dial_all-clause-puts g c = λ watch. c.in_err-dial_all.ensures.puts watch []
     (none_before watch (g.W.Wires.told c.args.wires.now) c.requires.wires.log)
+
+pub returns-in_err-dial_all-clause-right : goal.returns-in_err-dial_all-clause-right
+returns-in_err-dial_all-clause-right g c = (let p = err_from_is_err_and c.from_residual.result c.from_residual.ensures.1 in rw p.1 (c.in_err-dial_all.ensures.right (starts c.args.client.now c.new-progress.result
+    (g.W.Wires.told c.args.wires.now) c.requires.reflects c.new-progress.ensures c.requires.wires.log)))

@@ -1,11 +1,13 @@
 use Rattle.std.proofs.Common.{ℕ, ◌+◌, [], ◌∷◌, ◌++◌, Err, refl, ◌∙◌, ap, subst}
+use Rattle.std.proofs.lemmas.Result.{err_from_is_err_and}
 use Rattle.cf_bytes.specs.declared.peer.PeerNo.{PeerNo}
 use Rattle.cf_wires.specs.declared.event.Event.TheVariants.{NotDialled}
-use Rattle.cf_client.specs.Stands.{Reflects, greeting_by}
+use Rattle.cf_client.specs.Stands.{Reflects, rule_by, greeting_by}
 use Rattle.cf_run.proofs.Courses.{dials_none, quiet_runs, dialled_one, missed_one, one_more_then}
 use Rattle.cf_run.proofs.Passing.{dial_keeps, dialled_then, missed_alone}
 use Rattle.cf_run.proofs.Versions.{entry_keeps, same_keeps}
 use Rattle.cf_run.proofs.Turns.{dial_doing, not_dialled_holds}
+use Rattle.cf_run.proofs.Rights.{holds_right, missed_right, right_at}
 use Rattle.cf_run.proofs.over.dial_one.Goals as goal
 
 pub returns-in_ok-greet-in-Ok-clause-holds : goal.returns-in_ok-greet-in-Ok-clause-holds
@@ -88,3 +90,18 @@ returns-in-Err-NoMemory-clause-dials g c =
     let e = c.in-Err-NoMemory.ensures in
     let same = e.no_memory (ap Err c.in-Err-NoMemory.field-0-is) in
     dials_none c.args.name.now _ _ (quiet_runs _ _ same e.cause.later e.same e.keeps refl c.requires.step) same
+
+pub returns-in_err-greet-in-Ok-clause-right : goal.returns-in_err-greet-in-Ok-clause-right
+returns-in_err-greet-in-Ok-clause-right g c = (let p = err_from_is_err_and c.from_residual.result c.from_residual.ensures.1 in rw p.1 (λ called holds.
+    c.in_err-greet-in-Ok.ensures.right (called ++ c.args.name.now ∷ []) holds.actual holds.reflects
+    (λ acts. rw c.in-Ok.ensures.dialled.1
+    (dial_doing c.args.client.now acts c.args.progress.now called (g.W.Wires.told c.args.wires.now) c.in-Ok.p c.args.name.now holds c.in-Ok.ensures.dialled.0 c.requires.room c.requires.untaken c.requires.unended))))
+
+pub returns-in_err-not_dialled-in-Err-Failed-clause-right : goal.returns-in_err-not_dialled-in-Err-Failed-clause-right
+returns-in_err-not_dialled-in-Err-Failed-clause-right g c = (let p = err_from_is_err_and c.from_residual-in_err-not_dialled-in-Err-Failed.result c.from_residual-in_err-not_dialled-in-Err-Failed.ensures.1 in rw p.1 (λ called holds.
+    missed_right c.args.client.now (record { 0 = (g.W.Wires.told c.args.wires.now).tally.dials + 1 }) c.args.name.now
+    (c.in-Err-Failed.ensures.not_dialled (ap Err c.in-Err-Failed.field-0-is)) holds))
+
+pub returns-in-Err-NoMemory-clause-right : goal.returns-in-Err-NoMemory-clause-right
+returns-in-Err-NoMemory-clause-right g c = λ called holds.
+    right_at (rule_by c.args.client.now).mode (c.in-Err-NoMemory.ensures.no_memory (ap Err c.in-Err-NoMemory.field-0-is)) (holds_right c.args.client.now holds)

@@ -1,4 +1,5 @@
-use Rattle.std.proofs.Common.{List, ◌∷◌, sym, ◌∙◌, subst}
+use Rattle.std.proofs.Common.{List, ◌∷◌, sym, ◌∙◌, subst, []}
+use Rattle.std.proofs.lemmas.Result.{err_from_is_err_and}
 use Rattle.cf_peer.specs.declared.act.Act.{Act}
 use Rattle.cf_wires.specs.declared.event.Event.TheVariants.{Dialled}
 use Rattle.cf_client.specs.Stands.{Answers, greeting_by}
@@ -7,6 +8,7 @@ use Rattle.cf_run.proofs.Passing.{acts_keep}
 use Rattle.cf_run.proofs.Ticked.{ticked_greeted}
 use Rattle.cf_run.proofs.Turns.{doing_rule}
 use Rattle.cf_run.proofs.Versions.{greeting_tells}
+use Rattle.cf_run.proofs.Rights.{doing_right, right_by}
 use Rattle.cf_run.proofs.over.greet.Goals as goal
 
 pub returns-clause-holds : goal.returns-clause-holds
@@ -47,3 +49,13 @@ returns-in_err-carry_out-clause-performs g c = c.in_err-carry_out.ensures.perfor
 
 pub returns-in_err-acts-clause-performs : goal.returns-in_err-acts-clause-performs
 returns-in_err-acts-clause-performs g c = performs_self _ c.requires.step
+
+pub returns-in_err-carry_out-clause-right : goal.returns-in_err-carry_out-clause-right
+returns-in_err-carry_out-clause-right g c = (let p = err_from_is_err_and c.from_residual-in_err-carry_out.result c.from_residual-in_err-carry_out.ensures.1 in rw p.1 (λ called log reflects doing.
+    let acts = c.in_ok-acts.ensures in
+    let now = Dialled c.args.p c.args.name.now ∷ log in
+    let answers = subst (λ (acts : List Act). Answers c.dialled.new.self acts now) (sym c.deref.ensures.value) (acts.answers log reflects) in
+    right_by (g.W.Wires.told c.carry_out.new.wires) acts.rule (c.in_err-carry_out.ensures.right called now answers (doing_rule acts.rule (doing c.deref.result.now)))))
+
+pub returns-in_err-acts-clause-right : goal.returns-in_err-acts-clause-right
+returns-in_err-acts-clause-right g c = (let p = err_from_is_err_and c.from_residual.result c.from_residual.ensures.1 in rw p.1 (λ called log reflects doing. doing_right (doing [])))

@@ -1,8 +1,10 @@
 use Rattle.std.proofs.Common.{◌≡◌, true, false, get_or, sym, ◌∙◌}
+use Rattle.std.proofs.lemmas.Result.{err_from_is_err_and}
 use Rattle.cf_run.specs.Moments.{is_pending, state_at}
 use Rattle.cf_run.proofs.Performs.{skipped_close, closed_again, closed_on}
 use Rattle.cf_wires.specs.declared.event.Event.TheVariants.{Closed}
 use Rattle.cf_run.proofs.Versions.{entry_keeps}
+use Rattle.cf_run.proofs.Rights.{doing_right}
 use Rattle.cf_run.proofs.over.perform_close.Goals as goal
 
 pub returns-then-is_pending-clause-doing : goal.returns-then-is_pending-clause-doing
@@ -24,3 +26,6 @@ returns-clause-doing g c = λ rule more called planned may doing.
 
 pub returns-clause-versions : goal.returns-clause-versions
 returns-clause-versions g c = λ words. entry_keeps words (Closed c.args.p) _ _ c.close.ensures.closed tt
+
+pub returns-in_err-push-clause-right : goal.returns-in_err-push-clause-right
+returns-in_err-push-clause-right g c = (let p = err_from_is_err_and c.from_residual.result c.from_residual.ensures.1 in rw p.1 (λ rule more called planned may doing. doing_right doing))

@@ -1,8 +1,10 @@
 use Rattle.std.proofs.Common.{◌≡◌, ◌<◌, length, Err, true, false, sym, ◌∙◌, ap, arith}
+use Rattle.std.proofs.lemmas.Result.{err_from_is_err_and}
 use Rattle.cf_run.specs.Moments.{is_pending, state_at}
 use Rattle.cf_run.proofs.Performs.{skipped_send, sent_on, failed_on, may_send}
 use Rattle.cf_wires.specs.declared.event.Event.TheVariants.{SendFailed}
 use Rattle.cf_run.proofs.Versions.{sent_keeps, entry_keeps, same_keeps}
+use Rattle.cf_run.proofs.Rights.{doing_right, right_at, sent_right}
 use Rattle.cf_run.proofs.over.perform_send.Goals as goal
 
 pub returns-then-is_pending-clause-doing : goal.returns-then-is_pending-clause-doing
@@ -36,3 +38,12 @@ returns-in-Err-Failed-clause-versions g c = λ words tells. entry_keeps words (S
 
 pub returns-in-Err-NoMemory-clause-versions : goal.returns-in-Err-NoMemory-clause-versions
 returns-in-Err-NoMemory-clause-versions g c = λ words tells. same_keeps words _ _ (c.in-Err-NoMemory.ensures.no_memory (ap Err c.in-Err-NoMemory.field-0-is))
+
+pub returns-in_err-push-in-Ok-clause-right : goal.returns-in_err-push-in-Ok-clause-right
+returns-in_err-push-in-Ok-clause-right g c = (let p = err_from_is_err_and c.from_residual.result c.from_residual.ensures.1 in rw p.1 (λ rule more called planned may doing.
+    let free : is_pending (state_at c.args.progress.now.sends c.args.p.0) ≡ false = sym c.is_pending.ensures ∙ c.if-is_pending.false in
+    sent_right more c.args.progress.now called planned _ _ c.args.p c.args.message.now free c.in-Ok.ensures.sent.1 may doing))
+
+pub returns-in-Err-NoMemory-clause-right : goal.returns-in-Err-NoMemory-clause-right
+returns-in-Err-NoMemory-clause-right g c = λ rule more called planned may doing.
+    right_at rule.mode (c.in-Err-NoMemory.ensures.no_memory (ap Err c.in-Err-NoMemory.field-0-is)) (doing_right doing)

@@ -1,9 +1,9 @@
-use Rattle.std.proofs.Common.{List, ◌∷◌, ◌<◌, [], length, set, refl, sym, ◌∙◌, ap, subst}
+use Rattle.std.proofs.Common.{List, ◌∷◌, [], refl, sym, ◌∙◌, ap, subst}
+use Rattle.std.proofs.lemmas.Result.{err_from_is_err_and}
 use Rattle.cf_peer.specs.declared.act.Act.{Act}
 use Rattle.cf_wires.specs.declared.event.Event.TheVariants.{SendFailed}
 use Rattle.cf_peer.specs.declared.peer.Cause.TheVariants.{SendFailed as SendFault}
 use Rattle.cf_run.specs.declared.progress.Progress.{Progress}
-use Rattle.cf_run.specs.declared.progress.SendState.TheVariants.{Known}
 use Rattle.cf_place.specs.Places.{Allowed, after}
 use Rattle.cf_run.specs.Run.{IsTicked}
 use Rattle.cf_run.specs.Moments.{Doing}
@@ -12,9 +12,10 @@ use Rattle.cf_run.proofs.Courses.{noted_performs, performs_self, performs_then}
 use Rattle.cf_run.proofs.Ticked.{ticked_then, ticked_told}
 use Rattle.cf_client.specs.Stands.{rule_by}
 use Rattle.cf_run.proofs.Turns.{doing_rule}
-use Rattle.cf_run.proofs.Performs.{cut_for, told_one, all_told, in_count}
+use Rattle.cf_run.proofs.Performs.{cut_for, told_now, all_told, in_count}
 use Rattle.cf_client.specs.Stands.{greeting_by}
 use Rattle.cf_run.proofs.Versions.{acts_tell_so}
+use Rattle.cf_run.proofs.Rights.{doing_right, right_by}
 use Rattle.cf_run.proofs.over.settle.Goals as goal
 
 pub loop-p-init : goal.loop-p-init
@@ -33,14 +34,10 @@ loop-p-preserved g c = record {
       let p = c.in-Some.p in
       let w = c.loop-p.invariant.waits called planned reflects doing in
       let next = SendFailed p ∷ w.planned in
-      let lt : p.0 < length c.loop-p.progress.sends = c.note_told.ensures.within in
       let used = in_count c.loop-p.client [] c.loop-p.progress called w.planned (g.W.Wires.told c.loop-p.wires) p.0 c.in-Some.ensures.some.1 w.reflects w.doing in
       let a = c.in_ok-acts.ensures.answers w.planned next used w.reflects (cut_for p w.planned) in
-      let first = c.in_ok-acts.ensures.first used in
-      let told = told_one {rule = rule_by c.loop-p.client} first.0 c.loop-p.progress called w.planned (g.W.Wires.told c.loop-p.wires) p SendFault lt c.in-Some.ensures.some.1 w.doing in
-      let rule = rule_by c.loop-p.client in
-      let begun = subst (λ (acts : List Act). Doing rule acts (record c.loop-p.progress { sends = set c.loop-p.progress.sends p.0 Known }) called next (g.W.Wires.told c.loop-p.wires)) (sym first.1 ∙ sym c.deref.ensures.value) told in
-      let noted = subst (λ (x : Progress). Doing rule c.deref.result.now x called next (g.W.Wires.told c.loop-p.wires)) {x = record c.loop-p.progress { sends = set c.loop-p.progress.sends c.in-Some.p.0 Known }} (sym c.note_told.ensures.told) begun in
+      let noted = told_now called w.planned (g.W.Wires.told c.loop-p.wires) p SendFault c.note_told.ensures.within
+      c.in-Some.ensures.some.1 (c.in_ok-acts.ensures.first used).1 c.deref.ensures.value c.note_told.ensures.told w.doing in
       let same = c.in_ok-acts.ensures.rule in
       let allowed = subst (λ (acts : List Act). Allowed (rule_by c.send_failed.new.self) acts next) (sym c.deref.ensures.value) a.allowed in
       let done = c.in_ok-perform_acts.ensures.doing (rule_by c.send_failed.new.self) called next allowed (doing_rule same noted) in
@@ -79,3 +76,21 @@ returns-in_err-perform_acts-clause-versions g c = λ called planned reflects doi
     let tells = c.in_ok-acts.ensures.tells w.planned (SendFailed p ∷ w.planned) used w.reflects (cut_for p w.planned) in
     c.in_err-perform_acts.ensures.versions (greeting_by c.args.client.now) (acts_tell_so _ _ c.in_ok-acts.acts.items _ c.loop-p.invariant.words c.deref.ensures.value tells)
     (c.loop-p.invariant.versions called planned reflects doing has)
+
+pub returns-in_err-acts-clause-right : goal.returns-in_err-acts-clause-right
+returns-in_err-acts-clause-right g c = (let p = err_from_is_err_and c.from_residual.result c.from_residual.ensures.1 in rw p.1 (λ called planned reflects doing.
+    right_by (g.W.Wires.told c.loop-p.wires) c.loop-p.invariant.rule (doing_right (c.loop-p.invariant.waits called planned reflects doing).doing)))
+
+pub returns-in_err-perform_acts-clause-right : goal.returns-in_err-perform_acts-clause-right
+returns-in_err-perform_acts-clause-right g c = (let p = err_from_is_err_and c.from_residual-in_err-perform_acts.result c.from_residual-in_err-perform_acts.ensures.1 in rw p.1 (λ called planned reflects doing.
+    let p = c.in-Some.p in
+    let w = c.loop-p.invariant.waits called planned reflects doing in
+    let next = SendFailed p ∷ w.planned in
+    let used = in_count c.loop-p.client [] c.loop-p.progress called w.planned (g.W.Wires.told c.loop-p.wires) p.0 c.in-Some.ensures.some.1 w.reflects w.doing in
+    let a = c.in_ok-acts.ensures.answers w.planned next used w.reflects (cut_for p w.planned) in
+    let noted = told_now called w.planned (g.W.Wires.told c.loop-p.wires) p SendFault c.note_told.ensures.within
+    c.in-Some.ensures.some.1 (c.in_ok-acts.ensures.first used).1 c.deref.ensures.value c.note_told.ensures.told w.doing in
+    let same = c.in_ok-acts.ensures.rule in
+    let allowed = subst (λ (acts : List Act). Allowed (rule_by c.send_failed.new.self) acts next) (sym c.deref.ensures.value) a.allowed in
+    right_by (g.W.Wires.told c.perform_acts.new.wires) (same ∙ c.loop-p.invariant.rule)
+    (c.in_err-perform_acts.ensures.right (rule_by c.send_failed.new.self) called next allowed (doing_rule same noted))))

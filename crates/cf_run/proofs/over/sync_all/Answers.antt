@@ -7,6 +7,8 @@ use Rattle.cf_sync.specs.Fetching.{Rule}
 use Rattle.cf_run.specs.Names.{names_in}
 use Rattle.cf_run.specs.Whole.{IsOutcome}
 use Rattle.cf_run.proofs.Passing.{ends_within, passes_none, passes_turns, passes_untaken}
+use Rattle.cf_run.proofs.Rights.{holds_right, right_by, right_new}
+use Rattle.cf_peer.specs.declared.mode.Mode.TheVariants.{Once}
 use Rattle.cf_run.proofs.over.sync_all.Goals as goal
 
 pub returns-clause-outcome : goal.returns-clause-outcome
@@ -46,3 +48,21 @@ returns-clause-passes g c =
     let d = c.in_ok-progress.ensures in
     passes_turns c.args.turns c.in_ok-client.ensures.words (to_z-of_z {w = w64} {z = c.args.moment} (search rules)) d.words d.passes
     (c.in_ok-end.ensures.versions (names_in c.args.names.now) d.holds) c.in_ok-end.ensures.takes
+
+pub returns-in_err-client-clause-right : goal.returns-in_err-client-clause-right
+returns-in_err-client-clause-right g c = right_new Once (g.W.Wires.told c.args.wires.now) c.requires.wires.log
+
+pub returns-in_err-progress-clause-right : goal.returns-in_err-progress-clause-right
+returns-in_err-progress-clause-right g c = right_by (g.W.Wires.told c.dial_first.new.wires) c.in_ok-client.ensures.rule c.in_err-progress.ensures.right
+
+pub returns-in_err-end-clause-right : goal.returns-in_err-end-clause-right
+returns-in_err-end-clause-right g c =
+    let d = c.in_ok-progress.ensures in
+    right_by (g.W.Wires.told c.take_turns.new.wires) (d.rule ∙ c.in_ok-client.ensures.rule) (c.in_err-end.ensures.right (names_in c.args.names.now) d.holds)
+
+pub returns-clause-right : goal.returns-clause-right
+returns-clause-right g c =
+    let d = c.in_ok-progress.ensures in
+    let e = c.in_ok-end.ensures in
+    right_by (g.W.Wires.told c.take_turns.new.wires) (e.rule ∙ d.rule ∙ c.in_ok-client.ensures.rule)
+    (holds_right _ (e.stopped (names_in c.args.names.now) d.holds).holds)

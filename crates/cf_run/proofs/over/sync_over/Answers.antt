@@ -26,3 +26,6 @@ returns-clause-wires g c =
     let words = words_so _ _ c.args.moment c.args.nonce refl (to_z-of_z {w = w64} {z = c.args.moment} (search rules)) in
     let end = c.finish.ensures in
     leaves_wires _ _ words c.requires.wires c.sync_all-outcome.ensures.passes end.told end.later end.same end.keeps
+
+pub returns-clause-right : goal.returns-clause-right
+returns-clause-right g c = rw c.finish.ensures.told c.sync_all-outcome.ensures.right

@@ -1,14 +1,16 @@
-use Rattle.std.proofs.Common.{◌≡◌, List, ◌∷◌, sym, ◌∙◌, ap, subst, refl}
+use Rattle.std.proofs.Common.{◌≡◌, List, ◌∷◌, sym, ◌∙◌, ap, subst, refl, []}
+use Rattle.std.proofs.lemmas.Result.{err_from_is_err_and}
 use Rattle.cf_peer.specs.declared.act.Act.{Act}
 use Rattle.cf_wires.specs.declared.event.Delivery.{Delivery}
 use Rattle.cf_wires.specs.declared.event.Event.TheVariants.{Took}
 use Rattle.cf_wires.specs.Log.{tell, Told}
-use Rattle.cf_client.specs.Stands.{Answers, greeting_by}
+use Rattle.cf_client.specs.Stands.{Answers, rule_by, greeting_by}
 use Rattle.cf_run.proofs.Passing.{take_keeps}
 use Rattle.cf_run.proofs.Versions.{entry_keeps, same_keeps}
 use Rattle.cf_run.proofs.Ticked.{ticked_taken}
 use Rattle.cf_run.proofs.Turns.{took_doing, doing_rule, took_counts, took_closed}
 use Rattle.cf_run.proofs.Courses.{told_runs, turns_then, puts_taken}
+use Rattle.cf_run.proofs.Rights.{doing_right, holds_right, right_at, right_by}
 use Rattle.cf_run.proofs.over.take_next.Goals as goal
 
 pub returns-clause-holds : goal.returns-clause-holds
@@ -71,3 +73,23 @@ returns-in_err-carry_out-clause-versions g c = λ called holds may.
     let acts = c.in_ok-acts.ensures in
     take_keeps c.args.client.now c.step.new.self (g.W.Wires.told c.carry_out.new.wires) c.in_ok-d.d holds may c.note_bytes.ensures c.in_ok-d.ensures.took acts.rule acts.words c.deref.ensures.value
     (acts.answers holds.actual holds.reflects) (acts.tells holds.actual holds.reflects) c.in_err-carry_out.ensures.versions
+
+pub returns-in_err-d-clause-right : goal.returns-in_err-d-clause-right
+returns-in_err-d-clause-right g c = (let p = err_from_is_err_and c.from_residual.result c.from_residual.ensures.1 in rw p.1 (λ called holds may.
+    right_at (rule_by c.args.client.now).mode c.in_err-d.ensures.err (holds_right c.args.client.now holds)))
+
+pub returns-in_err-acts-clause-right : goal.returns-in_err-acts-clause-right
+returns-in_err-acts-clause-right g c = (let p = err_from_is_err_and c.from_residual-in_err-acts.result c.from_residual-in_err-acts.ensures.1 in rw p.1 (λ called holds may.
+    right_at (rule_by c.args.client.now).mode c.in_ok-d.ensures.took
+    (doing_right (took_doing c.args.client.now [] c.args.progress.now called (g.W.Wires.told c.args.wires.now) c.in_ok-d.d c.note_bytes.ensures holds may))))
+
+pub returns-in_err-carry_out-clause-right : goal.returns-in_err-carry_out-clause-right
+returns-in_err-carry_out-clause-right g c = (let p = err_from_is_err_and c.from_residual-in_err-carry_out.result c.from_residual-in_err-carry_out.ensures.1 in rw p.1 (λ called holds may.
+    let d = c.in_ok-d.d in
+    let acts = c.in_ok-acts.ensures in
+    let log = Took d ∷ holds.actual in
+    let doing = took_doing c.args.client.now c.deref.result.now c.args.progress.now called (g.W.Wires.told c.args.wires.now) d c.note_bytes.ensures holds may in
+    right_by (g.W.Wires.told c.carry_out.new.wires) acts.rule
+    (c.in_err-carry_out.ensures.right called log
+    (subst (λ (acts : List Act). Answers c.step.new.self acts log) (sym c.deref.ensures.value) (acts.answers holds.actual holds.reflects))
+    (doing_rule acts.rule (rw c.in_ok-d.ensures.took doing)))))

@@ -1,4 +1,5 @@
 use Rattle.std.proofs.Common.{refl, ap}
+use Rattle.std.proofs.lemmas.Result.{err_from_is_err_and}
 use Rattle.cf_wires.specs.Log.{Told}
 use Rattle.cf_client.specs.Stands.{rule_by}
 use Rattle.cf_run.specs.declared.outcome.End.TheVariants.{Ended as EndedFirst}
@@ -59,3 +60,7 @@ returns-clause-versions g c = λ called holds.
 pub returns-in_err-more-clause-versions : goal.returns-in_err-more-clause-versions
 returns-in_err-more-clause-versions g c = λ called holds.
     c.in_err-more.ensures.versions called holds (may_take (rule_by c.args.client.now).mode holds.actual (c.in-Working.ensures.state holds.actual holds.reflects))
+
+pub returns-in_err-more-clause-right : goal.returns-in_err-more-clause-right
+returns-in_err-more-clause-right g c = (let p = err_from_is_err_and c.from_residual.result c.from_residual.ensures.1 in rw p.1 (λ called holds.
+    c.in_err-more.ensures.right called holds (may_take (rule_by c.args.client.now).mode holds.actual (c.in-Working.ensures.state holds.actual holds.reflects))))

@@ -1,4 +1,5 @@
 use Rattle.std.proofs.Common.{◌≡◌, ◌+◌, Option, Some, refl, ◌∙◌, ap, subst, arith}
+use Rattle.std.proofs.lemmas.Result.{err_from_is_err_and}
 use Rattle.std.specs.Prelude.{IfNone, IfSome}
 use Rattle.cf_run.specs.declared.outcome.End.{End}
 use Rattle.cf_run.specs.Moments.{Turned}
@@ -6,6 +7,7 @@ use Rattle.cf_run.proofs.Courses.{took_more, took_none, turn_ends, turns_more, t
 use Rattle.cf_run.proofs.Turns.{stops, told_end, told_unended}
 use Rattle.cf_client.specs.Stands.{greeting_by}
 use Rattle.cf_run.proofs.Versions.{keeps_then}
+use Rattle.cf_run.proofs.Rights.{right_by}
 use Rattle.cf_run.proofs.over.take_turns.Goals as goal
 
 pub returns-in-Some-clause-stopped : goal.returns-in-Some-clause-stopped
@@ -74,3 +76,7 @@ loop-turn-preserved g c = record {
       (subst (λ (o : Option End). IfNone o ((g.W.Wires.told c.take_turn.new.wires).tally.taken ≡ (g.W.Wires.told c.loop-turn.wires).tally.taken + 1)) c.in_default.is c.in_ok-end.ensures.taken)
       (told_unended c.in_ok-end.field-0 (g.W.Wires.told c.loop-turn.wires).tally (g.W.Wires.told c.take_turn.new.wires).tally c.in_default.is c.in_ok-end.ensures.ended);
 }
+
+pub returns-in_err-end-clause-right : goal.returns-in_err-end-clause-right
+returns-in_err-end-clause-right g c = (let p = err_from_is_err_and c.from_residual.result c.from_residual.ensures.1 in rw p.1 (λ called holds.
+    right_by (g.W.Wires.told c.take_turn.new.wires) c.loop-turn.invariant.rule (c.in_err-end.ensures.right called (c.loop-turn.invariant.holds called holds))))
