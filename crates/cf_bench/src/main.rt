@@ -14,6 +14,7 @@ use cf_match::{Job, Matcher, Plain, Verdict};
 use cf_parallel::Parallel;
 use cf_scan::Watch;
 use cf_tasks::InThreads;
+use cf_walk::MOST_BLOCKS;
 use std::alloc::Global;
 use std::env;
 use std::process::ExitCode;
@@ -21,9 +22,6 @@ use std::rt::Clock;
 use std::sync::Wait;
 use std::thread::Threads;
 use std::time::Instant;
-
-// The most bytes of a block file.
-const MOST_BLOCKS: usize = 1_073_741_824;
 
 // So many scripts of 25 bytes, of which the first eight are their number.
 fn scripts_of(alloc: Global, count: u64) -> Result<Vec<Script>, NoMemory> {

@@ -6,7 +6,7 @@ use Rattle.cf_block.specs.declared.tx.Block.{Block}
 use Rattle.cf_msg.specs.declared.msg.Msg.{Msg}
 use Rattle.cf_msg.specs.declared.msg.Msg.TheVariants.{Version}
 use Rattle.cf_msg.specs.Message.{is_version}
-use Rattle.cf_chain.specs.Grow.{Mark, NotMet, Told, mark_at, announcement, top_hash, growing_answers, GrowAnswer, grow_answer, IsToldFirst, Service, served_all, Asking, asked_by, answers_over, IsAnsweredAlone}
+use Rattle.cf_chain.specs.Grow.{TipMark, NotMet, TipTold, mark_at, announcement, top_hash, growing_answers, GrowAnswer, grow_answer, IsToldFirst, Service, served_all, Asking, asked_by, answers_over, IsAnsweredAlone}
 
 pub alone : (now : ℤ) (nonce : ℕ) (fits : List Block → Block → Bool) (blocks : List Block) (asked : List Asking) (c : ℕ)
     → IsAnsweredAlone now nonce fits blocks asked c
@@ -25,10 +25,10 @@ alone now nonce fits blocks (x ∷ asked) c = by_asker (c == x.0) refl (alone no
       let replies : s.replies x.0 ≡ at.replies = ap s.replies (sym same) ∙ before.replies in
       record {
         replies = rw is (
-            ap (λ (m : Mark). s.replies x.0 ++ (grow_answer now nonce s.blocks m x.1).replies) mark
+            ap (λ (m : TipMark). s.replies x.0 ++ (grow_answer now nonce s.blocks m x.1).replies) mark
             ∙ ap (λ (ms : List Msg). ms ++ (grow_answer now nonce s.blocks at.mark x.1).replies) replies
             );
-        mark = rw is (ap (λ (m : Mark). (grow_answer now nonce s.blocks m x.1).mark) mark);
+        mark = rw is (ap (λ (m : TipMark). (grow_answer now nonce s.blocks m x.1).mark) mark);
       }
   by_asker false is before = record { replies = rw is before.replies; mark = rw is before.mark }
 
@@ -43,10 +43,10 @@ at_mark now nonce blocks m =
     (le-ltb (length blocks) (length blocks) (omega arith))
 
 pub told_of : (now : ℤ) (nonce height : ℕ) (hash : List ℕ) (blocks : List Block) (m : Msg) → height < length blocks
-    → IsToldFirst now nonce blocks (grow_answer now nonce blocks (Told height hash) m) m
+    → IsToldFirst now nonce blocks (grow_answer now nonce blocks (TipTold height hash) m) m
 told_of now nonce height hash blocks m lt =
     let up = lt-ltb height (length blocks) lt in
     record {
       replies = ap (λ (b : Bool). (if b then announcement (top_hash blocks) ∷ [] else []) ++ growing_answers now nonce blocks true m) up;
-      mark = ap (λ (b : Bool). if b then mark_at blocks else Told height hash) up;
+      mark = ap (λ (b : Bool). if b then mark_at blocks else TipTold height hash) up;
     }

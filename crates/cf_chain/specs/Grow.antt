@@ -44,36 +44,36 @@ growing_answers now nonce blocks met m = asked_for (wanted_entries blocks met m)
 
 -- what the asker was told of the chain: nothing before its version; then the height and the hash of the tip that it was told of
 -- last
-pub data Mark : Type 0 where
-  NotMet : Mark
-  Told : (height : ℕ) → (hash : Hash) → Mark
+pub data TipMark : Type 0 where
+  NotMet : TipMark
+  TipTold : (height : ℕ) → (hash : Hash) → TipMark
 
 -- the asker's version has come
-abbrev pub is_met : Mark → Bool
+abbrev pub is_met : TipMark → Bool
 is_met NotMet = false
-is_met (Told height hash) = true
+is_met (TipTold height hash) = true
 
 -- the mark of an asker that was told of this chain's tip
-abbrev pub mark_at : List Block → Mark
-mark_at blocks = Told (length blocks) (top_hash blocks)
+abbrev pub mark_at : List Block → TipMark
+mark_at blocks = TipTold (length blocks) (top_hash blocks)
 
 -- a tip above the mark is told first
-abbrev pub told_first : List Block → Mark → List Msg
+abbrev pub told_first : List Block → TipMark → List Msg
 told_first blocks NotMet = []
-told_first blocks (Told height hash) = if nat_lt height (length blocks) then announcement (top_hash blocks) ∷ [] else []
+told_first blocks (TipTold height hash) = if nat_lt height (length blocks) then announcement (top_hash blocks) ∷ [] else []
 
 -- the mark after a message: at the tip once a first version has come or a higher tip was told, else as before
-abbrev pub marked : List Block → Mark → Msg → Mark
+abbrev pub marked : List Block → TipMark → Msg → TipMark
 marked blocks NotMet m = if is_version m then mark_at blocks else NotMet
-marked blocks (Told height hash) m = if nat_lt height (length blocks) then mark_at blocks else Told height hash
+marked blocks (TipTold height hash) m = if nat_lt height (length blocks) then mark_at blocks else TipTold height hash
 
 -- the answer to one message, and where the mark stands then
 pub record GrowAnswer : Type 0 where
   pub replies : List Msg
-  pub mark : Mark
+  pub mark : TipMark
 
 -- a message is answered: a tip above the mark is told first, and then comes what is answered by this chain
-abbrev pub grow_answer : ℤ → ℕ → List Block → Mark → Msg → GrowAnswer
+abbrev pub grow_answer : ℤ → ℕ → List Block → TipMark → Msg → GrowAnswer
 grow_answer now nonce blocks mark m = record {
   replies = told_first blocks mark ++ growing_answers now nonce blocks (is_met mark) m;
   mark = marked blocks mark m;
@@ -94,7 +94,7 @@ grown fits blocks met m = blocks
 -- the chain and each asker's mark, and what each was answered, in order
 pub record Service : Type 0 where
   pub blocks : List Block
-  pub marks : ℕ → Mark
+  pub marks : ℕ → TipMark
   pub replies : ℕ → List Msg
 
 abbrev pub put_at : {A : Type 0} → (ℕ → A) → ℕ → A → ℕ → A

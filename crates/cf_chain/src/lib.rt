@@ -8,7 +8,7 @@ ghost use Rattle.cf_msg.specs.declared.msg.Msg.{Msg};
 ghost use Rattle.cf_msg.specs.declared.msg.Msg.TheVariants.{GetHeaders, Headers, GetCfilters, GetCfheaders, GetCfcheckpt};
 ghost use Rattle.cf_msg.specs.Message.{is_version};
 ghost use Rattle.cf_chain.specs.Filters.{filter_at};
-ghost use Rattle.cf_chain.specs.Grow.{Asking, IsAnsweredAlone, IsToldFirst, NotMet, Told, growing_answers, grow_answer, mark_at};
+ghost use Rattle.cf_chain.specs.Grow.{Asking, IsAnsweredAlone, IsToldFirst, NotMet, TipTold, growing_answers, grow_answer, mark_at};
 ghost use Rattle.cf_chain.specs.Heights.{block_height};
 ghost use Rattle.cf_chain.specs.Serve.{reply_to, replies_to, cfilter_of};
 
@@ -54,5 +54,5 @@ pub fn laws_of_growing()
     ensures at_mark { (now : ℤ) (nonce : ℕ) (blocks : List Block) (m : Msg)
         → (grow_answer now nonce blocks (mark_at blocks) m).replies ≡ growing_answers now nonce blocks true m }
     ensures told { (now : ℤ) (nonce height : ℕ) (hash : List ℕ) (blocks : List Block) (m : Msg) → height < length blocks
-        → IsToldFirst now nonce blocks (grow_answer now nonce blocks (Told height hash) m) m }
+        → IsToldFirst now nonce blocks (grow_answer now nonce blocks (TipTold height hash) m) m }
 {}

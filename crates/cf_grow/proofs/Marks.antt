@@ -5,7 +5,7 @@ use Rattle.std.proofs.lemmas.Bool.{false≢true}
 use Rattle.cf_bytes.specs.declared.hash.Hash32.{Hash32}
 use Rattle.cf_block.specs.declared.tx.Block.{Block}
 use Rattle.cf_block.specs.Header.{block_hash_of}
-use Rattle.cf_chain.specs.Grow.{Mark as Told, NotMet, Told as IsTold, mark_at, is_met, announcement, asked_for, wanted_entries, growing_answers, top_hash, told_first, marked, grow_answer}
+use Rattle.cf_chain.specs.Grow.{TipMark, NotMet, TipTold, mark_at, is_met, announcement, asked_for, wanted_entries, growing_answers, top_hash, told_first, marked, grow_answer}
 use Rattle.cf_chain.specs.Heights.{all_blocks}
 use Rattle.cf_chain.specs.Serve.{replies_to}
 use Rattle.cf_chain.proofs.Tops.{top_at}
@@ -13,7 +13,7 @@ use Rattle.cf_msg.specs.declared.msg.Msg.{Msg}
 use Rattle.cf_msg.specs.Message.{is_version}
 use Rattle.cf_server.specs.declared.answering.Serving.{Serving}
 use Rattle.cf_grow.specs.declared.taking.Answer.{Answer}
-use Rattle.cf_grow.specs.declared.mark.Mark.{Mark}
+use Rattle.cf_grow.specs.declared.mark.ServedMark.{ServedMark}
 use Rattle.cf_grow.specs.declared.mark.TakeFail.{TakeFail}
 use Rattle.cf_grow.specs.declared.mark.TakeFail.TheVariants.{Shrunk, NoMemory}
 use Rattle.cf_server.specs.declared.reply.Reply.{Reply}
@@ -67,8 +67,8 @@ news_at blocks seen height hash on over =
 
 -- the mark
 at_tip : (blocks : List Block) (n : ℕ) (top : Hash32) → n ≡ length blocks → top.0 ≡ top_hash blocks
-    → IsTold n top.0 ≡ mark_at blocks
-at_tip blocks n top e is = ap (λ (k : ℕ). IsTold k top.0) e ∙ ap (λ (x : List ℕ). IsTold (length blocks) x) is
+    → TipTold n top.0 ≡ mark_at blocks
+at_tip blocks n top e is = ap (λ (k : ℕ). TipTold k top.0) e ∙ ap (λ (x : List ℕ). TipTold (length blocks) x) is
 
 pub moves_first : (blocks : List Block) (seen now : Bool) (height n : ℕ) (hash top : Hash32) → seen ≡ false
     → n ≡ length blocks → top.0 ≡ top_hash blocks
@@ -82,23 +82,23 @@ pub moves_up : (blocks : List Block) (seen now : Bool) (height n : ℕ) (hash to
     → told_by now n top ≡ moved blocks (told_by seen height hash) now
 moves_up blocks seen now height n hash top on still e is up =
     ap (λ (b : Bool). told_by b n top) still ∙ at_tip blocks n top e is
-    ∙ sym (ap (λ (b : Bool). moved blocks (told_by b height hash) now) on ∙ ap (λ (b : Bool). if b then mark_at blocks else IsTold height hash.0) (lt-ltb height (length blocks) (omega (arith, up, e))))
+    ∙ sym (ap (λ (b : Bool). moved blocks (told_by b height hash) now) on ∙ ap (λ (b : Bool). if b then mark_at blocks else TipTold height hash.0) (lt-ltb height (length blocks) (omega (arith, up, e))))
 
 pub moves_not : (blocks : List Block) (seen now : Bool) (height n : ℕ) (hash : Hash32) → seen ≡ true → now ≡ true
     → n ≡ length blocks → n ≤ height
     → told_by now height hash ≡ moved blocks (told_by seen height hash) now
 moves_not blocks seen now height n hash on still e over =
     ap (λ (b : Bool). told_by b height hash) still
-    ∙ sym (ap (λ (b : Bool). moved blocks (told_by b height hash) now) on ∙ ap (λ (b : Bool). if b then mark_at blocks else IsTold height hash.0) (le-ltb height (length blocks) (omega (arith, over, e))))
+    ∙ sym (ap (λ (b : Bool). moved blocks (told_by b height hash) now) on ∙ ap (λ (b : Bool). if b then mark_at blocks else TipTold height hash.0) (le-ltb height (length blocks) (omega (arith, over, e))))
 
-moved_is : (blocks : List Block) (told : Told) (seen : Bool) (m : Msg) → is_met told ≡ seen
+moved_is : (blocks : List Block) (told : TipMark) (seen : Bool) (m : Msg) → is_met told ≡ seen
     → moved blocks told (is_version m || seen) ≡ marked blocks told m
 moved_is blocks NotMet true m e = absurd (false≢true e)
 moved_is blocks NotMet false m e = by_version (is_version m) where
   by_version : (b : Bool) → moved blocks NotMet (b || false) ≡ (if b then mark_at blocks else NotMet)
   by_version true = refl
   by_version false = refl
-moved_is blocks (IsTold height hash) seen m e = refl
+moved_is blocks (TipTold height hash) seen m e = refl
 
 met_is : (seen : Bool) (height : ℕ) (hash : Hash32) → is_met (told_by seen height hash) ≡ seen
 met_is true height hash = refl
@@ -128,7 +128,7 @@ answer_is served blocks height hash m a news wants adds =
     }
 
 -- once it is found that a mark doesn't stand, something was told
-pub after_version : (blocks : List Block) (mark : Mark) (e : TakeFail) → IsRefusal blocks mark e → IsAfterVersion mark e
+pub after_version : (blocks : List Block) (mark : ServedMark) (e : TakeFail) → IsRefusal blocks mark e → IsAfterVersion mark e
 after_version blocks mark (Shrunk s) refuses = by_seen mark.served.seen refl where
   by_seen : (b : Bool) → mark.served.seen ≡ b → mark.served.seen ≡ true
   by_seen true is = is

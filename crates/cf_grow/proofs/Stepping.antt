@@ -6,14 +6,14 @@ use Rattle.cf_bytes.specs.declared.hash.Hash32.{Hash32}
 use Rattle.cf_bytes.specs.declared.memory.Refused.{Refused}
 use Rattle.cf_block.specs.declared.tx.Block.{Block}
 use Rattle.cf_chain.specs.Good.{IsGoodChain}
-use Rattle.cf_chain.specs.Grow.{Mark as Told, Told as IsTold, is_met}
+use Rattle.cf_chain.specs.Grow.{TipMark, TipTold, is_met}
 use Rattle.cf_frame.specs.declared.frame.Frame.{Frame}
 use Rattle.cf_frame.specs.Frame.{IsFrame}
 use Rattle.cf_bytes.specs.Cut.{IsBytes}
 use Rattle.cf_grow.specs.declared.grown.Taken.{Taken}
 use Rattle.cf_grow.specs.declared.held.Held.{Held}
 use Rattle.cf_grow.specs.declared.ending.Ending.TheVariants.{Served}
-use Rattle.cf_grow.specs.declared.mark.Mark.{Mark}
+use Rattle.cf_grow.specs.declared.mark.ServedMark.{ServedMark}
 use Rattle.cf_grow.specs.declared.mark.Shrunk.{Shrunk as Hashes}
 use Rattle.cf_grow.specs.declared.mark.TakeFail.{TakeFail}
 use Rattle.cf_grow.specs.declared.mark.TakeFail.TheVariants.{Shrunk as NotThere, NoMemory as OutOfMemory}
@@ -42,7 +42,7 @@ stands_by blocks true height hash has = has refl
 stands_by blocks false height hash has = tt
 
 -- a step answers the message by a good chain on which the mark stands
-pub step_answers : (mark now : Mark) (m : Msg) (taken : Taken) (sent : List Held) → sent ≡ taken.parts → IsStep mark now m taken
+pub step_answers : (mark now : ServedMark) (m : Msg) (taken : Taken) (sent : List Held) → sent ≡ taken.parts → IsStep mark now m taken
     → Answers mark.served.time mark.served.nonce (mark_of mark) m (mark_of now) (texts_in sent)
 step_answers mark now m taken sent same step = record {
   chain = step.chain;
@@ -60,14 +60,14 @@ shrunk_by true height hash s blocks good misses told found = record {
   chain = blocks;
   good = good;
   height = height;
-  told = ap (λ (h : Hash32). IsTold height h.0) (sym told);
+  told = ap (λ (h : Hash32). TipTold height h.0) (sym told);
   found = found;
   other = λ same. misses (λ on. sym found ∙ same ∙ ap Some told);
 }
 shrunk_by false height hash s blocks good misses told found = absurd (misses (λ on. absurd (false≢true on)))
 
 -- a frame whose message is refused
-pub refused_frame : (fail : TakeFail) (now : ℤ) (nonce : ℕ) (read : Result Msg Malformed) (m : Msg) (mark : Mark) (next : Told) (o : Option (List ℕ)) → read ≡ Ok m → IsAfterVersion mark fail → IsRefused mark fail
+pub refused_frame : (fail : TakeFail) (now : ℤ) (nonce : ℕ) (read : Result Msg Malformed) (m : Msg) (mark : ServedMark) (next : TipMark) (o : Option (List ℕ)) → read ≡ Ok m → IsAfterVersion mark fail → IsRefused mark fail
     → AnswersFrame (Err (ending_of fail)) now nonce read (mark_of mark) next o o
 refused_frame (NotThere s) now nonce read m mark next o is met refused = (
   (m, is),
@@ -78,7 +78,7 @@ refused_frame (NotThere s) now nonce read m mark next o is met refused = (
 refused_frame OutOfMemory now nonce read m mark next o is met refused = inl refl
 
 -- one whose answer is sent in part
-pub frame_failed : (outcome : ServeEnd) (now : ℤ) (nonce : ℕ) (read : Result Msg Malformed) (m : Msg) (mark next : Told) (text : List ℕ) (o p : Option (List ℕ)) → read ≡ Ok m
+pub frame_failed : (outcome : ServeEnd) (now : ℤ) (nonce : ℕ) (read : Result Msg Malformed) (m : Msg) (mark next : TipMark) (text : List ℕ) (o p : Option (List ℕ)) → read ≡ Ok m
     → Answers now nonce mark m next text → Sends (Err outcome) o p text → AnswersFrame (Err (Served outcome)) now nonce read mark next o p
 frame_failed WriteFault now nonce read m mark next text o p is answers sends = inr (record { message = m; is = is; next = next; text = text; answers = answers; begins = sends })
 frame_failed NoMemory now nonce read m mark next text o p is answers sends = inr (record { message = m; is = is; next = next; text = text; answers = answers; begins = sends })
@@ -89,6 +89,6 @@ frame_failed ReadFault now nonce read m mark next text o p is answers sends = ab
 frame_failed Tired now nonce read m mark next text o p is answers sends = absurd sends
 
 -- one whose answer is sent whole
-pub frame_answered : (now : ℤ) (nonce : ℕ) (read : Result Msg Malformed) (m : Msg) (mark next : Told) (text : List ℕ) (o p : Option (List ℕ)) → read ≡ Ok m
+pub frame_answered : (now : ℤ) (nonce : ℕ) (read : Result Msg Malformed) (m : Msg) (mark next : TipMark) (text : List ℕ) (o p : Option (List ℕ)) → read ≡ Ok m
     → Answers now nonce mark m next text → Whole o p text → Answered now nonce read mark next o p
 frame_answered now nonce read m mark next text o p is answers whole = record { message = m; is = is; text = text; answers = answers; written = whole }

@@ -3,9 +3,9 @@ use Rattle.std.specs.Prelude.{◌≡◌, ℕ, Bool, true, false, if◌then◌els
 use Rattle.cf_bytes.specs.declared.hash.Hash32.{Hash32}
 use Rattle.cf_block.specs.declared.tx.Block.{Block}
 use Rattle.cf_chain.specs.Good.{IsGoodChain}
-use Rattle.cf_chain.specs.Grow.{GrowAnswer, Mark as Told, NotMet, Told as IsTold, mark_at, announcement, asked_for, grown, grow_answer}
+use Rattle.cf_chain.specs.Grow.{GrowAnswer, TipMark, NotMet, TipTold, mark_at, announcement, asked_for, grown, grow_answer}
 use Rattle.cf_grow.specs.declared.grown.Taken.{Taken}
-use Rattle.cf_grow.specs.declared.mark.Mark.{Mark}
+use Rattle.cf_grow.specs.declared.mark.ServedMark.{ServedMark}
 use Rattle.cf_grow.specs.declared.mark.TakeFail.{TakeFail}
 use Rattle.cf_grow.specs.declared.mark.TakeFail.TheVariants.{Shrunk, NoMemory}
 use Rattle.cf_grow.specs.declared.taking.Answer.{Answer}
@@ -18,26 +18,26 @@ use Rattle.cf_server.specs.Serving.{text_of}
 use Rattle.cf_grow.specs.Standing.{hash_in}
 
 -- what was told, by what is kept of it
-abbrev pub told_by : Bool → ℕ → Hash32 → Told
-told_by true height hash = IsTold height hash.0
+abbrev pub told_by : Bool → ℕ → Hash32 → TipMark
+told_by true height hash = TipTold height hash.0
 told_by false height hash = NotMet
 
-abbrev pub mark_of : Mark → Told
+abbrev pub mark_of : ServedMark → TipMark
 mark_of mark = told_by mark.served.seen mark.height mark.hash
 
 -- the answer to a message of a connection with this mark, by a chain
-abbrev pub answer_at : Mark → List Block → Msg → GrowAnswer
+abbrev pub answer_at : ServedMark → List Block → Msg → GrowAnswer
 answer_at mark blocks m = grow_answer mark.served.time mark.served.nonce blocks (mark_of mark) m
 
 -- the mark stands on the chain, once something was told
-abbrev pub HasMark : List Block → Mark → Type 0
+abbrev pub HasMark : List Block → ServedMark → Type 0
 HasMark blocks mark = mark.served.seen ≡ true → hash_in blocks mark.height ≡ Some mark.hash
 
 -- where the mark stands then, by whether a version has come by then
-abbrev pub moved : List Block → Told → Bool → Told
+abbrev pub moved : List Block → TipMark → Bool → TipMark
 moved blocks NotMet true = mark_at blocks
 moved blocks NotMet false = NotMet
-moved blocks (IsTold height hash) seen = if nat_lt height (length blocks) then mark_at blocks else IsTold height hash
+moved blocks (TipTold height hash) seen = if nat_lt height (length blocks) then mark_at blocks else TipTold height hash
 
 -- the messages that an answer stands for
 abbrev pub news_in : Option Hash32 → List Msg
@@ -52,35 +52,35 @@ pub record IsAnswerOf (served : Serving) (blocks : List Block) (a : Answer) (mes
   pub each : AreRepliesOf blocks a.plain
 
 -- it is refused only where the mark doesn't stand on the chain, and carries both hashes
-abbrev pub IsRefusal : List Block → Mark → TakeFail → Type 0
+abbrev pub IsRefusal : List Block → ServedMark → TakeFail → Type 0
 IsRefusal blocks mark (Shrunk s) = (HasMark blocks mark → ⊥) × (s.seen ≡ mark.hash) × (s.found ≡ hash_in blocks mark.height)
 IsRefusal blocks mark NoMemory = Unit {0}
 
-abbrev pub Refuses : {X : Type 0} → List Block → Mark → Result X TakeFail → Type 0
+abbrev pub Refuses : {X : Type 0} → List Block → ServedMark → Result X TakeFail → Type 0
 Refuses blocks mark (Ok x) = Unit {0}
 Refuses blocks mark (Err e) = IsRefusal blocks mark e
 
 -- it is refused by some good chain
-pub record IsRefused (mark : Mark) (e : TakeFail) : Type 0 where
+pub record IsRefused (mark : ServedMark) (e : TakeFail) : Type 0 where
   pub chain : List Block
   pub good : IsGoodChain chain
   pub refusal : IsRefusal chain mark e
 
-abbrev pub RefusesBy : {X : Type 0} → Mark → Result X TakeFail → Type 0
+abbrev pub RefusesBy : {X : Type 0} → ServedMark → Result X TakeFail → Type 0
 RefusesBy mark (Ok x) = Unit {0}
 RefusesBy mark (Err e) = IsRefused mark e
 
 -- a chain that isn't the one that was told is found only once a version has come
-abbrev pub IsAfterVersion : Mark → TakeFail → Type 0
+abbrev pub IsAfterVersion : ServedMark → TakeFail → Type 0
 IsAfterVersion mark (Shrunk s) = mark.served.seen ≡ true
 IsAfterVersion mark NoMemory = Unit {0}
 
-abbrev pub ShrinksAfter : {X : Type 0} → Mark → Result X TakeFail → Type 0
+abbrev pub ShrinksAfter : {X : Type 0} → ServedMark → Result X TakeFail → Type 0
 ShrinksAfter mark (Ok x) = Unit {0}
 ShrinksAfter mark (Err e) = IsAfterVersion mark e
 
 -- the time and the nonce of the server's own version stay
-abbrev pub HasMomentOf : Mark → Mark → Type 0
+abbrev pub HasMomentOf : ServedMark → ServedMark → Type 0
 HasMomentOf old new = (new.served.time ≡ old.served.time) × (new.served.nonce ≡ old.served.nonce)
 
 -- a block may stand on a chain
@@ -95,7 +95,7 @@ abbrev pub joined_in : List Block → List Block → Option ℕ
 joined_in old new = height_joined (length old) (length new)
 
 -- one message was answered by a good chain on which the mark stands, and of a block that has joined it the height is told
-pub record IsStep (mark now : Mark) (m : Msg) (taken : Taken) : Type 0 where
+pub record IsStep (mark now : ServedMark) (m : Msg) (taken : Taken) : Type 0 where
   pub chain : List Block
   pub good : IsGoodChain chain
   pub has : HasMark chain mark

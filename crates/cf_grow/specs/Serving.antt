@@ -4,7 +4,7 @@ use Rattle.cf_bytes.specs.Outside.{HasRisen}
 use Rattle.cf_conn.specs.Source.{with_front}
 use Rattle.cf_block.specs.declared.tx.Block.{Block}
 use Rattle.cf_chain.specs.Good.{IsGoodChain}
-use Rattle.cf_chain.specs.Grow.{Mark as Told, NotMet, Told as IsTold, grow_answer, is_met}
+use Rattle.cf_chain.specs.Grow.{TipMark, NotMet, TipTold, grow_answer, is_met}
 use Rattle.cf_frame.specs.declared.frame.Frame.{Frame}
 use Rattle.cf_frame.specs.Reading.{front_of}
 use Rattle.cf_grow.specs.declared.ending.Ending.{Ending}
@@ -23,7 +23,7 @@ use Rattle.cf_server.specs.Taking.{with_messages, ComesInside}
 -- ---- message by message
 
 -- one message was answered by a good chain on which the mark stands: this is written, and the mark stands there next
-pub record Answers (now : ℤ) (nonce : ℕ) (mark : Told) (m : Msg) (next : Told) (text : List ℕ) : Type 0 where
+pub record Answers (now : ℤ) (nonce : ℕ) (mark : TipMark) (m : Msg) (next : TipMark) (text : List ℕ) : Type 0 where
   pub chain : List Block
   pub good : IsGoodChain chain
   pub stands : StandsOn chain mark
@@ -31,10 +31,10 @@ pub record Answers (now : ℤ) (nonce : ℕ) (mark : Told) (m : Msg) (next : Tol
   pub moved : next ≡ (grow_answer now nonce chain mark m).mark
 
 -- the same of messages, one after another, each with the mark that the one before has left
-abbrev pub AnswersEach : ℤ → ℕ → Told → List Msg → Told → List ℕ → Type 0
+abbrev pub AnswersEach : ℤ → ℕ → TipMark → List Msg → TipMark → List ℕ → Type 0
 AnswersEach now nonce mark [] last text = (last ≡ mark) × (text ≡ [])
 AnswersEach now nonce mark (m ∷ ms) last text =
-    (next : Told) × (first : List ℕ) × (rest : List ℕ)
+    (next : TipMark) × (first : List ℕ) × (rest : List ℕ)
     × Answers now nonce mark m next first × AnswersEach now nonce next ms last rest × (text ≡ first ++ rest)
 
 -- ---- how serving ends
@@ -50,39 +50,39 @@ ending_of (NotThere s) = Shrunk s
 ending_of OutOfMemory = Served NoMemory
 
 -- all messages were answered
-pub record AllWritten (now : ℤ) (nonce : ℕ) (mark : Told) (messages : List Msg) (before after : Option (List ℕ)) : Type 0 where
-  pub last : Told
+pub record AllWritten (now : ℤ) (nonce : ℕ) (mark : TipMark) (messages : List Msg) (before after : Option (List ℕ)) : Type 0 where
+  pub last : TipMark
   pub text : List ℕ
   pub each : AnswersEach now nonce mark messages last text
   pub whole : Whole before after text
 
 -- some of them from the first on were answered, and of what is written for these a beginning stands
-pub record SomeWritten (now : ℤ) (nonce : ℕ) (mark : Told) (messages : List Msg) (before after : Option (List ℕ)) : Type 0 where
+pub record SomeWritten (now : ℤ) (nonce : ℕ) (mark : TipMark) (messages : List Msg) (before after : Option (List ℕ)) : Type 0 where
   pub answered : List Msg
   pub others : List Msg
   pub split : messages ≡ answered ++ others
-  pub last : Told
+  pub last : TipMark
   pub text : List ℕ
   pub each : AnswersEach now nonce mark answered last text
   pub begins : Beginning before after text
 
 -- some good chain has another hash at the height that was told, or is lower: these are the hash told and the one there
-pub record IsShrunk (mark : Told) (hashes : Hashes) : Type 0 where
+pub record IsShrunk (mark : TipMark) (hashes : Hashes) : Type 0 where
   pub chain : List Block
   pub good : IsGoodChain chain
   pub height : ℕ
-  pub told : mark ≡ IsTold height hashes.seen.0
+  pub told : mark ≡ TipTold height hashes.seen.0
   pub found : hashes.found ≡ hash_in chain height
   pub other : hashes.found ≡ Some hashes.seen → ⊥
 
 -- all before one of them were answered, and that one finds a mark that a `version` has set, and a chain that hasn't it
-pub record WrittenBefore (hashes : Hashes) (now : ℤ) (nonce : ℕ) (mark : Told) (messages : List Msg)
+pub record WrittenBefore (hashes : Hashes) (now : ℤ) (nonce : ℕ) (mark : TipMark) (messages : List Msg)
     (before after : Option (List ℕ)) : Type 0 where
   pub answered : List Msg
   pub refused : Msg
   pub others : List Msg
   pub split : messages ≡ answered ++ refused ∷ others
-  pub last : Told
+  pub last : TipMark
   pub met : is_met last ≡ true
   pub shrunk : IsShrunk last hashes
   pub text : List ℕ
@@ -90,7 +90,7 @@ pub record WrittenBefore (hashes : Hashes) (now : ℤ) (nonce : ℕ) (mark : Tol
   pub whole : Whole before after text
 
 -- what is written by then
-abbrev pub Writes : Ending → ℤ → ℕ → Told → List Msg → Option (List ℕ) → Option (List ℕ) → Type 0
+abbrev pub Writes : Ending → ℤ → ℕ → TipMark → List Msg → Option (List ℕ) → Option (List ℕ) → Type 0
 Writes (Served WriteFault) now nonce mark messages before after = SomeWritten now nonce mark messages before after
 Writes (Served NoMemory) now nonce mark messages before after = SomeWritten now nonce mark messages before after
 Writes (Served outcome) now nonce mark messages before after = AllWritten now nonce mark messages before after
@@ -126,26 +126,26 @@ CountsSends (Err (Served WriteFault)) before after = HasRisen before after
 CountsSends result before after = after ≡ before
 
 -- what became of a frame
-pub record Answered (now : ℤ) (nonce : ℕ) (read : Result Msg Malformed) (old new : Told) (before after : Option (List ℕ)) : Type 0 where
+pub record Answered (now : ℤ) (nonce : ℕ) (read : Result Msg Malformed) (old new : TipMark) (before after : Option (List ℕ)) : Type 0 where
   pub message : Msg
   pub is : read ≡ Ok message
   pub text : List ℕ
   pub answers : Answers now nonce old message new text
   pub written : Whole before after text
 
-pub record Begun (now : ℤ) (nonce : ℕ) (read : Result Msg Malformed) (old : Told) (before after : Option (List ℕ)) : Type 0 where
+pub record Begun (now : ℤ) (nonce : ℕ) (read : Result Msg Malformed) (old : TipMark) (before after : Option (List ℕ)) : Type 0 where
   pub message : Msg
   pub is : read ≡ Ok message
-  pub next : Told
+  pub next : TipMark
   pub text : List ℕ
   pub answers : Answers now nonce old message next text
   pub begins : Beginning before after text
 
 -- a frame that can't be answered has nothing written for it, or a beginning
-abbrev pub Fails : ℤ → ℕ → Result Msg Malformed → Told → Option (List ℕ) → Option (List ℕ) → Type 0
+abbrev pub Fails : ℤ → ℕ → Result Msg Malformed → TipMark → Option (List ℕ) → Option (List ℕ) → Type 0
 Fails now nonce read old before after = (after ≡ before) ⊎ Begun now nonce read old before after
 
-abbrev pub AnswersFrame : Result (Unit {0}) Ending → ℤ → ℕ → Result Msg Malformed → Told → Told → Option (List ℕ) → Option (List ℕ) → Type 0
+abbrev pub AnswersFrame : Result (Unit {0}) Ending → ℤ → ℕ → Result Msg Malformed → TipMark → TipMark → Option (List ℕ) → Option (List ℕ) → Type 0
 AnswersFrame (Ok x) now nonce read old new before after = Answered now nonce read old new before after
 AnswersFrame (Err (Served (MalformedFrame fault))) now nonce read old new before after = (read ≡ Err fault) × (after ≡ before)
 AnswersFrame (Err (Served WriteFault)) now nonce read old new before after = Fails now nonce read old before after
@@ -163,7 +163,7 @@ FindsFrame (Err (Served NoMemory)) old new = Unit {0}
 FindsFrame (Err ending) old new = ⊥
 
 -- Frames were taken and answered: so many may still come, and these bytes wait. Whatever follows, what is left leads to the same end.
-pub record Moves (now : ℤ) (nonce : ℕ) (frames frames_after : ℕ) (waits waits_after : List ℕ) (old new : Told) (before after : Option (List ℕ)) : Type 0 where
+pub record Moves (now : ℤ) (nonce : ℕ) (frames frames_after : ℕ) (waits waits_after : List ℕ) (old new : TipMark) (before after : Option (List ℕ)) : Type 0 where
   pub messages : List Msg
   pub leads : (more : List ℕ) → course frames (waits ++ more) ≡ with_messages messages (course frames_after (waits_after ++ more))
   pub text : List ℕ
@@ -171,17 +171,17 @@ pub record Moves (now : ℤ) (nonce : ℕ) (frames frames_after : ℕ) (waits wa
   pub written : Whole before after text
 
 -- an end of serving: where it comes, and what is written by then
-pub record Stops (now : ℤ) (nonce : ℕ) (ending : Ending) (frames : ℕ) (waits : List ℕ) (mark : Told) (before after : Option (List ℕ)) : Type 0 where
+pub record Stops (now : ℤ) (nonce : ℕ) (ending : Ending) (frames : ℕ) (waits : List ℕ) (mark : TipMark) (before after : Option (List ℕ)) : Type 0 where
   pub comes : Comes ending (course frames waits).stop
   pub writes : Writes ending now nonce mark (course frames waits).messages before after
 
 -- all frames that wait were taken, or serving ends
-abbrev pub TakesFrames : Result (Unit {0}) Ending → ℤ → ℕ → ℕ → ℕ → List ℕ → List ℕ → Told → Told → Option (List ℕ) → Option (List ℕ) → Type 0
+abbrev pub TakesFrames : Result (Unit {0}) Ending → ℤ → ℕ → ℕ → ℕ → List ℕ → List ℕ → TipMark → TipMark → Option (List ℕ) → Option (List ℕ) → Type 0
 TakesFrames (Ok x) now nonce frames frames_after waits waits_after old new before after = Moves now nonce frames frames_after waits waits_after old new before after
 TakesFrames (Err ending) now nonce frames frames_after waits waits_after old new before after = Stops now nonce ending frames waits old before after
 
 -- on the way through the bytes that a source told
-pub record Midway (now : ℤ) (nonce : ℕ) (bytes : List ℕ) (left : Option (List ℕ)) (frames : ℕ) (waits : List ℕ) (mark : Told) (before after : Option (List ℕ)) : Type 0 where
+pub record Midway (now : ℤ) (nonce : ℕ) (bytes : List ℕ) (left : Option (List ℕ)) (frames : ℕ) (waits : List ℕ) (mark : TipMark) (before after : Option (List ℕ)) : Type 0 where
   pub taken : List ℕ
   pub rest : Some bytes ≡ with_front taken left
   pub moves : Moves now nonce most_frames frames taken waits NotMet mark before after

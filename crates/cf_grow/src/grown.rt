@@ -9,7 +9,7 @@ ghost use Rattle.cf_msg.specs.{HasSpelling};
 ghost use Rattle.cf_server.specs.{text_of};
 
 use crate::held::{Parts, hold_answer};
-use crate::mark::{Mark, TakeFail};
+use crate::mark::{ServedMark, TakeFail};
 use crate::taking::take_at;
 use cf_block::Block;
 use cf_bytes::{NoMemory, Refused};
@@ -28,7 +28,12 @@ pub struct Taken {
 
 // The answer to a message, held. After a refusal the mark is unchanged.
 #[tactic(auto, using(crate::proofs::Holding::told_so))]
-fn answer_held(alloc: Global, index: &Index, mark: &mut Mark, msg: &Msg) -> Result<Parts, TakeFail>
+fn answer_held(
+    alloc: Global,
+    index: &Index,
+    mark: &mut ServedMark,
+    msg: &Msg,
+) -> Result<Parts, TakeFail>
     requires { HasSpelling msg.now }
     ensures has { OnOk result (HasMark index.now mark.old) }
     ensures answer { IfOk result (λ parts. texts_in parts ≡ text_of (answer_at mark.old index.now msg.now).replies) }
@@ -107,7 +112,12 @@ impl Grown {
     /// stand there. It is refused where the chain hasn't the mark's hash at its height, and where no memory is found;
     /// after that nothing has changed.
     #[tactic(auto, using(crate::proofs::Marks::after_version))]
-    pub fn take(&mut self, alloc: Global, mark: &mut Mark, msg: Msg) -> Result<Taken, TakeFail>
+    pub fn take(
+        &mut self,
+        alloc: Global,
+        mark: &mut ServedMark,
+        msg: Msg,
+    ) -> Result<Taken, TakeFail>
         requires { HasSpelling msg }
         ensures good { IsGoodChain self.old }
         ensures has { OnOk result (HasMark self.old mark.old) }
@@ -155,7 +165,7 @@ pub fn take_locked<R: Wait>(
     rt: &R,
     alloc: Global,
     grown: &Mutex<Grown>,
-    mark: &mut Mark,
+    mark: &mut ServedMark,
     msg: Msg,
 ) -> Result<Taken, TakeFail>
     requires { HasSpelling msg }

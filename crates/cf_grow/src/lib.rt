@@ -18,6 +18,6 @@ pub use growing::GrowingServer;
 pub use grown::{Grown, Taken, take_locked};
 pub use held::{Held, HeldBlock, Parts};
 pub use joins::{Joins, Nobody};
-pub use mark::{Mark, Shrunk, TakeFail};
+pub use mark::{ServedMark, Shrunk, TakeFail};
 pub use serve::serve_grown;
 pub use server::Server;

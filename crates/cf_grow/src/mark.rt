@@ -7,18 +7,18 @@ use cf_server::Serving;
 /// What a connection is served by, and the height and the hash of the tip that it was told of last, which count once
 /// its `version` has come.
 #[derive(Clone, Copy, Debug, PartialEq, Eq)]
-pub struct Mark {
+pub struct ServedMark {
     pub(crate) served: Serving,
     pub(crate) height: u32,
     pub(crate) hash: Hash32,
 }
 
-impl Mark {
+impl ServedMark {
     /// Nothing was told.
-    pub fn new(moment: i64, nonce: u64) -> Mark
+    pub fn new(moment: i64, nonce: u64) -> ServedMark
         ensures { result.served ≡ record { time = moment; nonce = nonce; seen = false } }
     {
-        Mark {
+        ServedMark {
             served: Serving::new(moment, nonce),
             height: 0,
             hash: Hash32([0; 32]),

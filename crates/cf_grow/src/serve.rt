@@ -10,7 +10,7 @@ ghost use Rattle.cf_server.specs.{Idles};
 use crate::ending::Ending;
 use crate::grown::{Grown, take_locked};
 use crate::joins::Joins;
-use crate::mark::Mark;
+use crate::mark::ServedMark;
 use crate::sending::send_parts;
 use cf_bytes::Refused;
 use cf_conn::Duplex;
@@ -51,7 +51,7 @@ fn answer_frame<R: Wait, J: Joins, C: Duplex>(
     grown: &Mutex<Grown>,
     joins: &J,
     conn: &mut C,
-    mark: &mut Mark,
+    mark: &mut ServedMark,
     frame: &Frame,
 ) -> Result<(), Ending>
     requires { IsFrame frame.now }
@@ -79,7 +79,7 @@ fn answer_frame<R: Wait, J: Joins, C: Duplex>(
 #[derive(Drop)]
 struct Session {
     framer: Framer,
-    mark: Mark,
+    mark: ServedMark,
     left: u32,
 }
 
@@ -177,7 +177,7 @@ pub fn serve_grown<R: Wait, J: Joins, C: Duplex>(
 {
     let mut session = Session {
         framer: Framer::new(alloc),
-        mark: Mark::new(moment, nonce),
+        mark: ServedMark::new(moment, nonce),
         left: MOST_FRAMES,
     };
     let mut piece = [0u8; PIECE];

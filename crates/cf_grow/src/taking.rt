@@ -4,7 +4,7 @@ ghost use Rattle.std.specs.List.{flat_map};
 ghost use Rattle.cf_chain.specs.{is_unknown, told_first, top_hash, unknown_entry, wanted_entries};
 ghost use Rattle.cf_grow.specs.Growing.{HasMark, HasMomentOf, IsAnswerOf, Refuses, answer_at, mark_of, moved, news_in};
 
-use crate::mark::{Mark, Shrunk, TakeFail};
+use crate::mark::{ServedMark, Shrunk, TakeFail};
 use cf_bytes::{Hash32, NoMemory};
 use cf_index::Index;
 use cf_msg::{BLOCK_KIND, Entries, Inventory, Msg};
@@ -21,7 +21,7 @@ pub(crate) struct Answer {
 
 // Whether the mark still stands on the chain.
 #[tactic(auto, unfolding(cf_headers::specs::Rules::same))]
-fn has_mark(index: &Index, mark: &Mark) -> bool
+fn has_mark(index: &Index, mark: &ServedMark) -> bool
     ensures has { result ≡ true → HasMark index.now mark.now }
     ensures lacks { result ≡ false → HasMark index.now mark.now → ⊥ }
 {
@@ -47,7 +47,7 @@ fn top_of(index: &Index) -> Hash32
 
 // The tip that is told first.
 #[tactic(auto, using(crate::proofs::Marks::news_none, crate::proofs::Marks::news_up, crate::proofs::Marks::news_at))]
-fn news_of(index: &Index, mark: &Mark) -> Option<Hash32>
+fn news_of(index: &Index, mark: &ServedMark) -> Option<Hash32>
     ensures { news_in result ≡ told_first index.now (mark_of mark.now) }
 {
     if !mark.served.seen {
@@ -101,7 +101,7 @@ fn wants_of(alloc: Global, index: &Index, seen: bool, msg: &Msg) -> Result<Entri
 
 // Moves the mark to the tip, where the tip was told.
 #[tactic(auto, using(crate::proofs::Marks::moves))]
-fn move_mark(index: &Index, mark: &mut Mark, served: Serving)
+fn move_mark(index: &Index, mark: &mut ServedMark, served: Serving)
     requires { mark.old.served.seen ≡ true → served.seen ≡ true }
     ensures mark { mark_of mark.new ≡ moved index.now (mark_of mark.old) served.seen }
     ensures served { mark.new.served ≡ served }
@@ -109,7 +109,7 @@ fn move_mark(index: &Index, mark: &mut Mark, served: Serving)
     let height = index.tip();
     let hash = top_of(index);
     if !mark.served.seen {
-        *mark = Mark {
+        *mark = ServedMark {
             served,
             height,
             hash,
@@ -117,7 +117,7 @@ fn move_mark(index: &Index, mark: &mut Mark, served: Serving)
         return;
     }
     if mark.height < height {
-        *mark = Mark {
+        *mark = ServedMark {
             served,
             height,
             hash,
@@ -134,7 +134,7 @@ fn move_mark(index: &Index, mark: &mut Mark, served: Serving)
 pub(crate) fn take_at(
     alloc: Global,
     index: &Index,
-    mark: &mut Mark,
+    mark: &mut ServedMark,
     msg: &Msg,
 ) -> Result<Answer, TakeFail>
     ensures has { OnOk result (HasMark index.now mark.old) }

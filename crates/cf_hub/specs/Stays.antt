@@ -33,7 +33,8 @@ module _ {D P R S W : Type 0} {d : OfDialer D S W} {w : OfWriter W} {k : OfSink 
   abbrev pub faults_of : (D → ℕ) → (W → ℕ) → Hub D P R S W d w k → ℕ
   faults_of dialer_faults writer_faults h = dialer_faults h.dialer + missed_of writer_faults h
 
-  -- ---- kinds of calls. What is said of all of a hub leaves out the senders that are spare, and which last entries have come.
+  -- ---- kinds of calls. What is said of all of a hub leaves out what it was made with (its runtime, its allocator and the flag that stops its
+  -- threads), the senders that are spare and which last entries have come; of its queue it says the seat, which tells what was taken.
 
   -- a call that only notes in the book: it leaves whether the log is kept, and all but the book
   pub record OnlyNotes (h h' : Hub D P R S W d w k) : Type 0 where

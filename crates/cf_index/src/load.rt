@@ -8,7 +8,7 @@ use crate::file::read_chain;
 use crate::index::Index;
 use cf_bytes::{NoMemory, Refused};
 use cf_conn::{Source, read_all};
-use cf_walk::{LoadFault, MOST_BYTES, fault_of};
+use cf_walk::{LoadFault, MOST_BLOCKS, fault_of};
 use std::alloc::Global;
 use std::thread::Threads;
 
@@ -46,7 +46,7 @@ impl Index {
             (S.faults source.old) (S.faults source.new) }
         ensures good { IfOk result (λ blocks. IsGoodChain blocks) }
     {
-        match read_all(alloc, source, MOST_BYTES) {
+        match read_all(alloc, source, MOST_BLOCKS) {
             Ok(bytes) => index_at(rt, alloc, bytes),
             Err(fail) => Err(fault_of(fail)),
         }

@@ -7,7 +7,7 @@ use Rattle.cf_block.specs.declared.tx.Block.{Block}
 use Rattle.cf_walk.specs.declared.cause.BadBlock.{BadBlock}
 use Rattle.cf_walk.specs.declared.fault.LoadFault.{LoadFault}
 use Rattle.cf_walk.specs.declared.fault.LoadFault.TheVariants as faults
-use Rattle.cf_walk.specs.Files.{blocks_at}
+use Rattle.cf_walk.specs.Files.{blocks_at, most_blocks}
 use Rattle.cf_input.specs.ProofFile.{proof_file_of}
 use Rattle.cf_input.specs.SessionFile.{session_of}
 use Rattle.cf_input.specs.WatchFile.{watch_of}
@@ -25,10 +25,6 @@ most_watch = 33554432
 -- the most bytes that a session file may have
 abbrev pub most_session : ℕ
 most_session = 1073741824
-
--- the most bytes that a block file may have
-abbrev pub most_blocks : ℕ
-most_blocks = 1073741824
 
 -- the most bytes that the file of a proof may have
 abbrev pub most_proof : ℕ

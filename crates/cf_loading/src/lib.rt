@@ -6,6 +6,6 @@ mod loading;
 mod scanning;
 
 pub use loading::{
-    MOST_BLOCKS, MOST_PROOF, MOST_SESSION, MOST_WATCH, load_chain, load_proof, load_session,
-    load_watch, scan_file,
+    MOST_PROOF, MOST_SESSION, MOST_WATCH, load_chain, load_proof, load_session, load_watch,
+    scan_file,
 };

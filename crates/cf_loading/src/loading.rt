@@ -19,7 +19,7 @@ use cf_conn::Opened;
 use cf_index::{CheckedChain, read_source};
 use cf_input::{Proven, Session, read_proof_file, read_session, read_watch};
 use cf_scan::Watch;
-use cf_walk::LoadFault;
+use cf_walk::{LoadFault, MOST_BLOCKS};
 use std::alloc::Global;
 
 /// The most bytes that a watch file may have.
@@ -27,9 +27,6 @@ pub const MOST_WATCH: usize = 33_554_432;
 
 /// The most bytes that a session file may have.
 pub const MOST_SESSION: usize = 1_073_741_824;
-
-/// The most bytes that a block file may have.
-pub const MOST_BLOCKS: usize = 1_073_741_824;
 
 /// The most bytes that the file of a proof may have.
 pub const MOST_PROOF: usize = 4_000_000;

@@ -1,5 +1,6 @@
 pub mod Courses
 pub mod AlikeParts
+pub mod Entries
 pub mod Performs
 pub mod Rights
 pub mod Ticked

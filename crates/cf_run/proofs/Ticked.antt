@@ -28,7 +28,8 @@ use Rattle.cf_client.proofs.Spelled.{spelled_bytes}
 use Rattle.cf_run.specs.declared.progress.Progress.{Progress}
 use Rattle.cf_run.specs.Run.{IsTicked}
 use Rattle.cf_run.specs.Moments.{Doing}
-use Rattle.cf_run.proofs.Performs.{connected_same, sent_here, sent_others}
+use Rattle.cf_run.proofs.Performs.{connected_same}
+use Rattle.cf_run.proofs.Entries.{sent_here, sent_others}
 
 -- something is open by this trail, or all numbers of pings were used
 abbrev StillOpen : Trail → Type 0

@@ -50,7 +50,8 @@ use Rattle.cf_place.specs.declared.state.State.{State}
 use Rattle.cf_place.specs.declared.state.State.TheVariants.{Working, Synced as IsSynced, NoPeers as HasNoPeers}
 use Rattle.cf_place.specs.Standing.{IsState}
 use Rattle.cf_run.proofs.Ticked.{ticked_ended, ticked_first, ticked_missed}
-use Rattle.cf_run.proofs.Performs.{tells_more, lost_off, sent_connected, untold_failing_here, untold_failing_others, untold_closed_others}
+use Rattle.cf_run.proofs.Performs.{tells_more}
+use Rattle.cf_run.proofs.Entries.{lost_off, sent_connected, untold_failing_here, untold_failing_others, untold_closed_others}
 
 -- what a piece says connects nobody, and cuts nobody off
 got_connected : (b : Bool) (piece : List ℕ) (part : Part) → is_connected (if b then heard_part piece part else part).trail ≡ is_connected part.trail

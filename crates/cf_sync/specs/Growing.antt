@@ -113,7 +113,7 @@ Reaches blocks first (Asked m ∷ t) s =
     (before : Turn) × Reaches blocks first t before × (s ≡ record before { asked = before.asked ++ m ∷ [] })
 Reaches blocks first (_ ∷ t) s = Reaches blocks first t s
 
--- at every moment of the log p has answered so, and in time; it hasn't gone, and no send to it has failed
+-- at every moment of the log p has answered so, and in time; no dial of it has failed, it hasn't gone, and no send to it has failed
 abbrev pub IsGrowingOver : Log → ℕ → List Block → ℕ → Type 0
 IsGrowingOver [] p blocks first = Unit {0}
 IsGrowingOver (e ∷ log) p blocks first =

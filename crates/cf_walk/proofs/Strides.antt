@@ -13,9 +13,8 @@ use Rattle.cf_walk.specs.declared.cause.RecordCause.TheVariants.{Cut}
 use Rattle.cf_walk.specs.declared.judge.Judge.{Judge}
 use Rattle.cf_walk.specs.declared.walk.Walk.{Walk}
 use Rattle.cf_walk.specs.Records.{Taken}
-use Rattle.cf_walk.specs.Files.{all_zeros, block_here, is_first, behind_first, after_genesis, blocks_from, blocks_at}
+use Rattle.cf_walk.specs.Files.{all_zeros, block_here, is_first, behind_first, after_genesis, blocks_from, blocks_at, most_blocks}
 use Rattle.cf_walk.specs.Judging.{BeginsWith, Firm, IsBlank, IsReady, IsWhole, StandsOn, WalksOver, next_by, after_by}
-use Rattle.cf_walk.specs.Striding.{most_bytes}
 use Rattle.cf_walk.specs.Striding.{Gives, IsWalking, NoneFails, behind_them, end_of, that_count}
 use Rattle.cf_walk.proofs.FileLaws.{both, is_zero, none_at_zero, read_from}
 use Rattle.cf_walk.proofs.FileSteps.{ends}
@@ -25,16 +24,16 @@ use Rattle.cf_walk.proofs.WalkSteps.{end_bad, end_more, stands_more}
 
 -- ---- the start
 
-pub walk_starts : (w : Walk) (bytes : List ℕ) → StandsOn w.judge [] → w.window ≡ record { held = []; room = most_bytes } → w.before ≡ 0 → w.begun ≡ false → IsWalking bytes w (Some bytes) []
+pub walk_starts : (w : Walk) (bytes : List ℕ) → StandsOn w.judge [] → w.window ≡ record { held = []; room = most_blocks } → w.before ≡ 0 → w.begun ≡ false → IsWalking bytes w (Some bytes) []
 unfolding that_count behind_them
 walk_starts w bytes stands window before begun = record {
   stands = stands;
   few = omega (arith, before);
   fresh = λ _. (refl, before);
-  rest = take most_bytes bytes;
+  rest = take most_blocks bytes;
   told = ap (λ (p : Pane). seen p (Some bytes)) window;
   others = ap (λ (p : Pane). beyond p (Some bytes)) window;
-  exact = ap (λ (b : Bool). end_of b w.before [] (take most_bytes bytes)) (sym begun);
+  exact = ap (λ (b : Bool). end_of b w.before [] (take most_blocks bytes)) (sym begun);
 }
 
 -- ---- genesis's record
@@ -146,17 +145,17 @@ begins_alone bytes old new before later w blocks fresh same bound ready first ju
 
 -- ---- a call's answers
 
-few_bytes : (bytes : List ℕ) → behind_them bytes ≡ [] → length bytes ≤ most_bytes
+few_bytes : (bytes : List ℕ) → behind_them bytes ≡ [] → length bytes ≤ most_blocks
 unfolding behind_them
-few_bytes bytes none = omega (arith, ap length none, length-drop most_bytes bytes)
+few_bytes bytes none = omega (arith, ap length none, length-drop most_blocks bytes)
 
-many_bytes : (bytes : List ℕ) → 0 < length (behind_them bytes) → most_bytes < length bytes
+many_bytes : (bytes : List ℕ) → 0 < length (behind_them bytes) → most_blocks < length bytes
 unfolding behind_them
-many_bytes bytes some = omega (arith, some, length-drop most_bytes bytes)
+many_bytes bytes some = omega (arith, some, length-drop most_blocks bytes)
 
-pub all_count : (bytes : List ℕ) → length bytes ≤ most_bytes → that_count bytes ≡ bytes
+pub all_count : (bytes : List ℕ) → length bytes ≤ most_blocks → that_count bytes ≡ bytes
 unfolding that_count
-all_count bytes few = take_all most_bytes bytes few
+all_count bytes few = take_all most_blocks bytes few
 
 begun_end : (bytes : List ℕ) (w : Walk) (left : Option (List ℕ)) (blocks : List Block) → w.begun ≡ true → (way : IsWalking bytes w left blocks) → blocks_at (that_count bytes) ≡ blocks_from w.before zero blocks way.rest
 begun_end bytes w left blocks begun way = way.exact ∙ ap (λ (b : Bool). end_of b w.before blocks way.rest) begun
@@ -176,14 +175,14 @@ gives_block bytes old new before later blocks b more way begun some e told other
 }
 
 pub gives_none : (bytes : List ℕ) (old : Walk) (before : Option (List ℕ)) (blocks : List Block) (way : IsWalking bytes old before blocks) → old.begun ≡ true → all_zeros way.rest ≡ true → behind_them bytes ≡ []
-    → (length bytes ≤ most_bytes) × (blocks_at bytes ≡ Ok blocks)
+    → (length bytes ≤ most_blocks) × (blocks_at bytes ≡ Ok blocks)
 gives_none bytes old before blocks way begun zeros none =
     let few = few_bytes bytes none in
     (few, ap blocks_at (sym (all_count bytes few)) ∙ begun_end bytes old before blocks begun way ∙ ends old.before blocks way.rest zeros)
 
 pub gives_bad : (bytes : List ℕ) (old : Walk) (before : Option (List ℕ)) (blocks : List Block) (cause : RecordCause) (number : ℕ) (way : IsWalking bytes old before blocks) → old.begun ≡ true → all_zeros way.rest ≡ false
     → next_by old.judge way.rest ≡ Err cause → (cause ≡ Cut → behind_them bytes ≡ []) → (old.before ≤ 1 → old.judge.height ≤ max_height → number ≡ suc (old.before + old.judge.height))
-    → (blocks_at (that_count bytes) ≡ Err (record { number = number; cause = cause })) × (cause ≡ Cut → length bytes ≤ most_bytes)
+    → (blocks_at (that_count bytes) ≡ Err (record { number = number; cause = cause })) × (cause ≡ Cut → length bytes ≤ most_blocks)
 gives_bad bytes old before blocks cause number way begun some e cut is =
     let up = is way.few (omega (arith, way.stands.height, way.stands.good.height)) in
     (begun_end bytes old before blocks begun way ∙ end_bad old.before number way.rest old.judge blocks cause some e up way.stands, λ c. few_bytes bytes (cut c))
@@ -195,7 +194,7 @@ none_fails_cut : (r : Result (List Block) BadBlock) (number : ℕ) → r ≡ Err
 none_fails_cut r number e = subst NoneFails (sym e) refl
 
 pub gives_more : (bytes : List ℕ) (old : Walk) (before : Option (List ℕ)) (blocks : List Block) (way : IsWalking bytes old before blocks) → old.begun ≡ true → 0 < length (behind_them bytes)
-    → (all_zeros way.rest ≡ true) ⊎ ((all_zeros way.rest ≡ false) × (next_by old.judge way.rest ≡ Err Cut)) → (most_bytes < length bytes) × NoneFails (blocks_at (that_count bytes))
+    → (all_zeros way.rest ≡ true) ⊎ ((all_zeros way.rest ≡ false) × (next_by old.judge way.rest ≡ Err Cut)) → (most_blocks < length bytes) × NoneFails (blocks_at (that_count bytes))
 gives_more bytes old before blocks way begun some (inl zeros) =
     (many_bytes bytes some, none_fails_ok (blocks_at (that_count bytes)) blocks (begun_end bytes old before blocks begun way ∙ ends old.before blocks way.rest zeros))
 gives_more bytes old before blocks way begun some (inr cut) = (

@@ -24,6 +24,10 @@ use Rattle.cf_walk.specs.declared.cause.BadBlock.{BadBlock}
 use Rattle.cf_walk.specs.Records.{Taken, IsRecordOf, HasRecords, record_at}
 use Rattle.cf_coins.specs.Spending.{spend_txs}
 
+-- the most bytes that a file of blocks may have
+abbrev pub most_blocks : ℕ
+most_blocks = 1073741824
+
 -- ---- good files
 
 -- the bytes are a record of the genesis block, with witnesses or without, and then the rest

@@ -10,12 +10,8 @@ use Rattle.cf_walk.specs.declared.cause.RecordCause.TheVariants.{Cut}
 use Rattle.cf_walk.specs.declared.fault.LoadFault.{LoadFault}
 use Rattle.cf_walk.specs.declared.fault.LoadFault.TheVariants as faults
 use Rattle.cf_walk.specs.declared.walk.Walk.{Walk}
-use Rattle.cf_walk.specs.Files.{blocks_from, blocks_at}
+use Rattle.cf_walk.specs.Files.{blocks_from, blocks_at, most_blocks}
 use Rattle.cf_walk.specs.Judging.{StandsOn}
-
--- the most bytes that a file of blocks may have
-abbrev pub most_bytes : ℕ
-most_bytes = 1073741824
 
 -- the most bytes of a record, and those of a piece that is read at once
 abbrev pub most_held : ℕ
@@ -31,10 +27,10 @@ HoldsFew w = length w.window.held < most_held
 
 -- the bytes of a source that count, and those behind them
 unfoldable pub that_count : List ℕ → List ℕ
-that_count bytes = take most_bytes bytes
+that_count bytes = take most_blocks bytes
 
 unfoldable pub behind_them : List ℕ → List ℕ
-behind_them bytes = drop most_bytes bytes
+behind_them bytes = drop most_blocks bytes
 
 -- what reading all of these bytes answers, from where a walk stands that has begun or not, after so many records and these blocks
 abbrev pub end_of : Bool → ℕ → List Block → List ℕ → Result (List Block) BadBlock
@@ -61,18 +57,18 @@ NoneFails (Err bad) = bad.cause ≡ Cut
 -- within the bytes that count; or that there are more bytes, where none fails within those
 abbrev pub Gives : List ℕ → List Block → Result (Option Block) LoadFault → Walk → Option (List ℕ) → Type 0
 Gives bytes blocks (Ok (Some b)) w left = IsWalking bytes w left (blocks ++ b ∷ [])
-Gives bytes blocks (Ok None) w left = (length bytes ≤ most_bytes) × (blocks_at bytes ≡ Ok blocks)
-Gives bytes blocks (Err (faults.BadBlock bad)) w left = (blocks_at (that_count bytes) ≡ Err bad) × (bad.cause ≡ Cut → length bytes ≤ most_bytes)
-Gives bytes blocks (Err faults.TooBig) w left = (most_bytes < length bytes) × NoneFails (blocks_at (that_count bytes))
+Gives bytes blocks (Ok None) w left = (length bytes ≤ most_blocks) × (blocks_at bytes ≡ Ok blocks)
+Gives bytes blocks (Err (faults.BadBlock bad)) w left = (blocks_at (that_count bytes) ≡ Err bad) × (bad.cause ≡ Cut → length bytes ≤ most_blocks)
+Gives bytes blocks (Err faults.TooBig) w left = (most_blocks < length bytes) × NoneFails (blocks_at (that_count bytes))
 Gives bytes blocks (Err faults.ReadFault) w left = Unit {0}
 Gives bytes blocks (Err faults.NoMemory) w left = Unit {0}
 
 -- what reading all the bytes answers: their blocks; the first record that fails within the bytes that count; or that there are more
 -- bytes, where none fails within those
 abbrev pub ReadsAs : List ℕ → Result (List Block) LoadFault → Type 0
-ReadsAs bytes (Ok blocks) = (length bytes ≤ most_bytes) × (blocks_at bytes ≡ Ok blocks)
-ReadsAs bytes (Err (faults.BadBlock bad)) = (blocks_at (that_count bytes) ≡ Err bad) × (bad.cause ≡ Cut → length bytes ≤ most_bytes)
-ReadsAs bytes (Err faults.TooBig) = (most_bytes < length bytes) × NoneFails (blocks_at (that_count bytes))
+ReadsAs bytes (Ok blocks) = (length bytes ≤ most_blocks) × (blocks_at bytes ≡ Ok blocks)
+ReadsAs bytes (Err (faults.BadBlock bad)) = (blocks_at (that_count bytes) ≡ Err bad) × (bad.cause ≡ Cut → length bytes ≤ most_blocks)
+ReadsAs bytes (Err faults.TooBig) = (most_blocks < length bytes) × NoneFails (blocks_at (that_count bytes))
 ReadsAs bytes (Err faults.ReadFault) = Unit {0}
 ReadsAs bytes (Err faults.NoMemory) = Unit {0}
 

@@ -6,7 +6,7 @@ use cf_conn::ReadFail;
 use thiserror::Error;
 
 /// The most bytes of a file of blocks.
-pub const MOST_BYTES: usize = 1_073_741_824;
+pub const MOST_BLOCKS: usize = 1_073_741_824;
 
 /// Why no chain was read.
 #[derive(Clone, Copy, Debug, PartialEq, Eq, Error)]

@@ -15,7 +15,7 @@ ghost use Rattle.cf_walk.specs.Striding.{CountsLoad, Gives, HoldsFew, IsWalking,
 
 use crate::cause::{BadBlock, RecordCause};
 use crate::checks::Found;
-use crate::fault::{LoadFault, MOST_BYTES, fault_of};
+use crate::fault::{LoadFault, MOST_BLOCKS, fault_of};
 use crate::file::{after_genesis, is_end};
 use crate::judge::{Judge, new_judge, number_at, walk_on};
 use crate::record::{take_head, take_record};
@@ -297,7 +297,7 @@ impl Walk {
     {
         Walk {
             judge: new_judge(alloc),
-            window: Window::new(alloc, MOST_BYTES),
+            window: Window::new(alloc, MOST_BLOCKS),
             before: 0,
             begun: false,
         }

@@ -1,5 +1,5 @@
 use Rattle.cf_index.specs.declared.checked.CheckedChain.{CheckedChain}
-use Rattle.cf_loading.specs.Verdicts.{most_blocks}
+use Rattle.cf_walk.specs.Files.{most_blocks}
 use Rattle.cf_loading.proofs.Asking.{is_opened}
 use Rattle.cf_loading.proofs.Opening.{bad_file, blocks_in_file, good_file}
 use Rattle.cf_loading.proofs.loading.load_chain.Goals as goal

@@ -1,6 +1,6 @@
 use Rattle.std.specs.Prelude.{String}
 use Rattle.std.specs.Global.{Global}
-use Rattle.cf_loading.specs.Verdicts.{most_blocks}
+use Rattle.cf_walk.specs.Files.{most_blocks}
 use Rattle.cf_loading.proofs.Asking.{is_opened}
 use Rattle.cf_loading.proofs.Opening.{bad_file}
 use Rattle.cf_loading.proofs.loading.scan_file.Goals as goal
