@@ -1,11 +1,10 @@
 //! What went wrong, told on standard error.
 use cf_answers::Status;
-use cf_bytes::{PeerNo, show};
+use cf_bytes::{MOST_PEERS, PeerNo, show};
 use cf_input::{Command, mistake_text, read_words};
 use cf_network::{FilterSpan, Network};
 use cf_peer::Cause;
 use cf_place::PeerEnd;
-use cf_wires::MOST_PEERS;
 use std::fs;
 use std::io::{self, Read};
 use std::sync::Wait;

@@ -1,7 +1,7 @@
 //! Headers, their bytes and their hashes.
 ghost use Rattle.std.specs.Prelude.{◌≡◌, ◌++◌, IfOk, OnOk, OnErr};
 ghost use Rattle.cf_bytes.specs.{Reads};
-ghost use Rattle.cf_block.specs.Header.{IsHeader, header_spelling, header_fields_at, header_at, block_hash_of, genesis_header as first_header};
+ghost use Rattle.cf_block.specs.Header.{IsHeader, header_spelling, header_fields_at, header_at, block_hash_of, genesis_header as genesis_header_is};
 
 use crate::fault::{BlockFault, BlockFaultKind};
 use cf_bytes::{Cut, CutFault, Hash32, NoMemory};
@@ -40,7 +40,7 @@ const GENESIS_HEADER: Header = Header {
 /// 0f9188f13cb7b2c71f2a335e3a4fc328bf5beb436012afca590b1a11466e2206.
 #[tactic(auto, unfolding(crate::specs::Header::genesis_header))]
 pub fn genesis_header() -> Header
-    ensures { result ≡ first_header }
+    ensures { result ≡ genesis_header_is }
 {
     GENESIS_HEADER
 }

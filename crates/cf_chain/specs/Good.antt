@@ -12,10 +12,6 @@ use Rattle.cf_block.specs.declared.tx.Block.{Block}
 use Rattle.cf_headers.specs.Chain.{Chain, height_limit, IsValidChain}
 use Rattle.cf_chain.specs.Coins.{CoinMap, without, after_tx, after_block}
 
--- the greatest height of a chain of blocks
-abbrev pub max_height : ℕ
-max_height = height_limit
-
 -- the names are distinct, and each is a coin's
 abbrev pub AllStand : CoinMap → List OutPoint → Type 0
 AllStand coins [] = Unit {0}
@@ -66,5 +62,5 @@ headers_of blocks = reverse (map (λ b. b.header) blocks)
 -- blocks above genesis, the lowest first
 pub record IsGoodChain (blocks : List Block) : Type 0 where
   pub headers : IsValidChain (headers_of blocks)
-  pub height : length blocks ≤ max_height
+  pub height : length blocks ≤ height_limit
   pub each : AreGoodBlocks empty blocks

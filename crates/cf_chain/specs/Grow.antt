@@ -40,7 +40,7 @@ asked_for (entry ∷ more) = GetData (entry ∷ more) ∷ []
 
 -- what is answered by this chain, the announcement apart; met tells whether a version came before
 abbrev pub growing_answers : ℤ → ℕ → List Block → Bool → Msg → List Msg
-growing_answers now nonce blocks met m = asked_for (wanted_entries blocks met m) ++ replies_to now nonce blocks met m
+growing_answers moment nonce blocks met m = asked_for (wanted_entries blocks met m) ++ replies_to moment nonce blocks met m
 
 -- what the asker was told of the chain: nothing before its version; then the height and the hash of the tip that it was told of
 -- last
@@ -74,14 +74,14 @@ pub record GrowAnswer : Type 0 where
 
 -- a message is answered: a tip above the mark is told first, and then comes what is answered by this chain
 abbrev pub grow_answer : ℤ → ℕ → List Block → TipMark → Msg → GrowAnswer
-grow_answer now nonce blocks mark m = record {
-  replies = told_first blocks mark ++ growing_answers now nonce blocks (is_met mark) m;
+grow_answer moment nonce blocks mark m = record {
+  replies = told_first blocks mark ++ growing_answers moment nonce blocks (is_met mark) m;
   mark = marked blocks mark m;
 }
 
 -- the tip is told first, and the asker's mark is the tip then
-pub record IsToldFirst (now : ℤ) (nonce : ℕ) (blocks : List Block) (answer : GrowAnswer) (m : Msg) : Type 0 where
-  pub replies : answer.replies ≡ announcement (top_hash blocks) ∷ growing_answers now nonce blocks true m
+pub record IsToldFirst (moment : ℤ) (nonce : ℕ) (blocks : List Block) (answer : GrowAnswer) (m : Msg) : Type 0 where
+  pub replies : answer.replies ≡ announcement (top_hash blocks) ∷ growing_answers moment nonce blocks true m
   pub mark : answer.mark ≡ mark_at blocks
 
 -- ---- a chain that many ask, and that grows
@@ -102,8 +102,8 @@ put_at f c x d = if d == c then x else f d
 
 -- one message of one asker: the chain as it stands answers it, and a block that it brings makes the chain longer after that
 abbrev pub served : ℤ → ℕ → (List Block → Block → Bool) → Service → ℕ → Msg → Service
-served now nonce fits s c m =
-    let a : GrowAnswer = grow_answer now nonce s.blocks (s.marks c) m in
+served moment nonce fits s c m =
+    let a : GrowAnswer = grow_answer moment nonce s.blocks (s.marks c) m in
     record {
       blocks = grown fits s.blocks (is_met (s.marks c)) m;
       marks = put_at s.marks c a.mark;
@@ -116,30 +116,30 @@ Asking = ℕ × Msg
 
 -- messages of many askers, the newest first, over the chain with which the service began
 abbrev pub served_all : ℤ → ℕ → (List Block → Block → Bool) → List Block → List Asking → Service
-served_all now nonce fits blocks [] = record { blocks = blocks; marks = λ c. NotMet; replies = λ c. [] }
-served_all now nonce fits blocks (x ∷ xs) = served now nonce fits (served_all now nonce fits blocks xs) x.0 x.1
+served_all moment nonce fits blocks [] = record { blocks = blocks; marks = λ c. NotMet; replies = λ c. [] }
+served_all moment nonce fits blocks (x ∷ xs) = served moment nonce fits (served_all moment nonce fits blocks xs) x.0 x.1
 
 -- the messages of one asker, each with the chain as it stood then, the newest first
 abbrev pub At : Type 0
 At = List Block × Msg
 
 abbrev pub asked_by : ℤ → ℕ → (List Block → Block → Bool) → List Block → ℕ → List Asking → List At
-asked_by now nonce fits blocks c [] = []
-asked_by now nonce fits blocks c (x ∷ xs) =
+asked_by moment nonce fits blocks c [] = []
+asked_by moment nonce fits blocks c (x ∷ xs) =
     if c == x.0
-    then ((served_all now nonce fits blocks xs).blocks, x.1) ∷ asked_by now nonce fits blocks c xs
-    else asked_by now nonce fits blocks c xs
+    then ((served_all moment nonce fits blocks xs).blocks, x.1) ∷ asked_by moment nonce fits blocks c xs
+    else asked_by moment nonce fits blocks c xs
 
 -- what one asker is answered whose messages find these chains
 abbrev pub answers_over : ℤ → ℕ → List At → GrowAnswer
-answers_over now nonce [] = record { replies = []; mark = NotMet }
-answers_over now nonce (x ∷ xs) =
-    let before : GrowAnswer = answers_over now nonce xs in
-    let a : GrowAnswer = grow_answer now nonce x.0 before.mark x.1 in
+answers_over moment nonce [] = record { replies = []; mark = NotMet }
+answers_over moment nonce (x ∷ xs) =
+    let before : GrowAnswer = answers_over moment nonce xs in
+    let a : GrowAnswer = grow_answer moment nonce x.0 before.mark x.1 in
     record { replies = before.replies ++ a.replies; mark = a.mark }
 
 -- an asker has the same replies, and the same mark, as if it were alone and found the chain as it stood with each of its messages
-pub record IsAnsweredAlone (now : ℤ) (nonce : ℕ) (fits : List Block → Block → Bool) (blocks : List Block) (asked : List Asking) (c : ℕ) : Type 0 where
+pub record IsAnsweredAlone (moment : ℤ) (nonce : ℕ) (fits : List Block → Block → Bool) (blocks : List Block) (asked : List Asking) (c : ℕ) : Type 0 where
   pub replies :
-      (served_all now nonce fits blocks asked).replies c ≡ (answers_over now nonce (asked_by now nonce fits blocks c asked)).replies
-  pub mark : (served_all now nonce fits blocks asked).marks c ≡ (answers_over now nonce (asked_by now nonce fits blocks c asked)).mark
+      (served_all moment nonce fits blocks asked).replies c ≡ (answers_over moment nonce (asked_by moment nonce fits blocks c asked)).replies
+  pub mark : (served_all moment nonce fits blocks asked).marks c ≡ (answers_over moment nonce (asked_by moment nonce fits blocks c asked)).mark

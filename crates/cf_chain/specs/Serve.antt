@@ -129,15 +129,15 @@ reply_to blocks m = []
 
 -- the machine's version: protocol 70016, services 65 (bits 0 and 6), no addresses, its agent, its height, no relay
 abbrev pub version_reply : ℤ → ℕ → List Block → Msg
-version_reply now nonce blocks = Version (pos 70016) 65 now no_address no_address nonce (codes "/cf:1/") (pos (length blocks)) (Some 0)
+version_reply moment nonce blocks = Version (pos 70016) 65 moment no_address no_address nonce (codes "/cf:1/") (pos (length blocks)) (Some 0)
 
 -- what is answered to one message, where a version came before it or not; the time and the nonce are those that the machine was given for the connection
 abbrev pub replies_to : ℤ → ℕ → List Block → Bool → Msg → List Msg
-replies_to now nonce blocks true m = reply_to blocks m
-replies_to now nonce blocks false (Version version services time to from number agent height relay) = version_reply now nonce blocks ∷ Verack ∷ []
-replies_to now nonce blocks false m = []
+replies_to moment nonce blocks true m = reply_to blocks m
+replies_to moment nonce blocks false (Version version services time to from number agent height relay) = version_reply moment nonce blocks ∷ Verack ∷ []
+replies_to moment nonce blocks false m = []
 
 -- nothing is answered before the first version, and no later version is
 abbrev pub replies : ℤ → ℕ → List Block → Bool → List Msg → List Msg
-replies now nonce blocks seen [] = []
-replies now nonce blocks seen (m ∷ ms) = replies_to now nonce blocks seen m ++ replies now nonce blocks (is_version m || seen) ms
+replies moment nonce blocks seen [] = []
+replies moment nonce blocks seen (m ∷ ms) = replies_to moment nonce blocks seen m ++ replies moment nonce blocks (is_version m || seen) ms

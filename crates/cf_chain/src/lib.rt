@@ -19,10 +19,10 @@ ghost use Rattle.cf_chain.specs.Serve.{reply_to, replies_to, cfilter_of};
 pub fn laws_of_replies()
     ensures genesis { (version : ℕ) (first : Hash32) (more : List Hash32) (stop : Hash32)
         → reply_to [] (GetHeaders version (first ∷ more) stop) ≡ Headers [] ∷ [] }
-    ensures before { (now : ℤ) (nonce : ℕ) (blocks : List Block) (m : Msg) → is_version m ≡ false
-        → replies_to now nonce blocks false m ≡ [] }
-    ensures second { (now : ℤ) (nonce : ℕ) (blocks : List Block) (m : Msg) → is_version m ≡ true
-        → replies_to now nonce blocks true m ≡ [] }
+    ensures before { (moment : ℤ) (nonce : ℕ) (blocks : List Block) (m : Msg) → is_version m ≡ false
+        → replies_to moment nonce blocks false m ≡ [] }
+    ensures second { (moment : ℤ) (nonce : ℕ) (blocks : List Block) (m : Msg) → is_version m ≡ true
+        → replies_to moment nonce blocks true m ≡ [] }
     ensures other_type { (blocks : List Block) (filter start : ℕ) (stop : Hash32) → filter ≢ 0
         → (reply_to blocks (GetCfilters filter start stop) ≡ [])
         × (reply_to blocks (GetCfheaders filter start stop) ≡ []) × (reply_to blocks (GetCfcheckpt filter stop) ≡ []) }
@@ -47,12 +47,12 @@ pub fn laws_of_replies()
 /// of its messages, whatever the others ask. Nothing is answered before a version. A tip that the asker wasn't told of
 /// is told first; at the mark the answer is the chain's own.
 pub fn laws_of_growing()
-    ensures alone { (now : ℤ) (nonce : ℕ) (fits : List Block → Block → Bool) (blocks : List Block) (asked : List Asking)
-        (c : ℕ) → IsAnsweredAlone now nonce fits blocks asked c }
-    ensures before { (now : ℤ) (nonce : ℕ) (blocks : List Block) (m : Msg) → is_version m ≡ false
-        → (grow_answer now nonce blocks NotMet m).replies ≡ [] }
-    ensures at_mark { (now : ℤ) (nonce : ℕ) (blocks : List Block) (m : Msg)
-        → (grow_answer now nonce blocks (mark_at blocks) m).replies ≡ growing_answers now nonce blocks true m }
-    ensures told { (now : ℤ) (nonce height : ℕ) (hash : List ℕ) (blocks : List Block) (m : Msg) → height < length blocks
-        → IsToldFirst now nonce blocks (grow_answer now nonce blocks (TipTold height hash) m) m }
+    ensures alone { (moment : ℤ) (nonce : ℕ) (fits : List Block → Block → Bool) (blocks : List Block) (asked : List Asking)
+        (c : ℕ) → IsAnsweredAlone moment nonce fits blocks asked c }
+    ensures before { (moment : ℤ) (nonce : ℕ) (blocks : List Block) (m : Msg) → is_version m ≡ false
+        → (grow_answer moment nonce blocks NotMet m).replies ≡ [] }
+    ensures at_mark { (moment : ℤ) (nonce : ℕ) (blocks : List Block) (m : Msg)
+        → (grow_answer moment nonce blocks (mark_at blocks) m).replies ≡ growing_answers moment nonce blocks true m }
+    ensures told { (moment : ℤ) (nonce height : ℕ) (hash : List ℕ) (blocks : List Block) (m : Msg) → height < length blocks
+        → IsToldFirst moment nonce blocks (grow_answer moment nonce blocks (TipTold height hash) m) m }
 {}

@@ -8,7 +8,8 @@ use Rattle.cf_wires.specs.declared.event.Event.TheVariants.{SendFailed, Took}
 use Rattle.cf_wires.specs.Log.{Log, dials, with_delivery}
 use Rattle.cf_wires.specs.Wires.{Script}
 use Rattle.cf_input.specs.Name.{is_name}
-use Rattle.cf_input.specs.SessionFile.{max_dials, most_seconds}
+use Rattle.cf_bytes.specs.Peers.{most_peers}
+use Rattle.cf_input.specs.SessionFile.{most_seconds}
 
 -- what the session lines of a log tell of its deliveries: a failed send is told as a peer that has gone
 abbrev pub told_deliveries : Log → List Delivery
@@ -39,6 +40,6 @@ AreOfSession peers (d ∷ ds) = IsOfSession peers d × AreOfSession peers ds
 -- one to eight peers with names were dialled, and what was delivered may stand in a session
 pub record IsRetold (log : Log) : Type 0 where
   pub some : 0 < length (dials log)
-  pub few : length (dials log) ≤ max_dials
+  pub few : length (dials log) ≤ most_peers
   pub names : AreNames (dials log)
   pub delivered : AreOfSession (length (dials log)) (told_deliveries log)

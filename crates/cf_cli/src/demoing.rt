@@ -1,7 +1,7 @@
 //! The client over played peers.
 ghost use Rattle.cf_offline.specs.{CountsOut};
 ghost use Rattle.std.specs.Prelude.{◌≡◌, ◌≢◌, ◌≤◌, ◌++◌, ℕ, [], false, IfErr, IfOk, OnOk, codes, string_bytes};
-ghost use Rattle.cf_chain.specs.{max_height};
+ghost use Rattle.cf_headers.specs.Chain.{height_limit};
 ghost use Rattle.cf_demo.specs.{IsDemo, IsSession, IsUnmade, IsUnplayed};
 ghost use Rattle.cf_wires.specs.Log.{Log};
 ghost use Rattle.cf_wires.specs.{session_text};
@@ -184,7 +184,7 @@ pub fn session(
     requires new { log_of played.old ≡ [] }
     requires none { peers_of played.old ≡ [] }
     requires open { finished_of played.old ≡ false }
-    requires most { blocks ≤ max_height }
+    requires most { blocks ≤ height_limit }
     ensures text { IfOk result (λ text. string_bytes text ≡ session_text (log_of played.new)) }
     ensures session { OnOk result (IsSession seed blocks (log_of played.new)) }
     ensures why { IfErr result (λ status. IsUnrecorded status seed blocks) }

@@ -27,7 +27,7 @@ use cf_answers::Status;
 use cf_bytes::{Files, NoMemory, Refused, Sink};
 use cf_conn::Duplex;
 use cf_grow::Joins;
-use cf_input::{Command, MOST_TURNS, Word, read_words};
+use cf_input::{Command, MOST_TURNS, MOST_WORKERS, Word, read_words};
 use cf_link::Link;
 use cf_loading::{load_session, load_watch};
 use cf_match::Plain;
@@ -250,7 +250,7 @@ fn follow<
 fn threads_of(workers: u32) -> u32
     ensures { (1 ≤ result) × (result ≤ 64) }
 {
-    workers.clamp(1, 64)
+    workers.clamp(1, MOST_WORKERS)
 }
 
 // Does what a command asks.

@@ -18,7 +18,7 @@ use Rattle.cf_peer.specs.declared.act.Act.TheVariants.{Send, Close}
 use Rattle.cf_peer.specs.declared.peer.Cause.{Cause}
 use Rattle.cf_peer.specs.declared.peer.Cause.TheVariants.{Overdue, Omits}
 use Rattle.cf_peer.specs.Asking.{is_ping, is_request}
-use Rattle.cf_peer.specs.Hearing.{IsReply}
+use Rattle.cf_peer.specs.Trail.{IsReply}
 use Rattle.cf_place.specs.declared.place.Place.{Place}
 use Rattle.cf_place.specs.Places.{AsksAbove, AsksFor, is_idle, nobody}
 use Rattle.cf_client.specs.Shutting.{shut_act}

@@ -8,7 +8,7 @@ use Rattle.std.proofs.lemmas.Option.{none-some}
 use Rattle.std.proofs.Math.ListN.{get_or-map}
 use Rattle.std.proofs.lemmas.List.{length-map}
 use Rattle.cf_bytes.specs.declared.hash.Hash32.{Hash32}
-use Rattle.cf_headers.specs.Chain.{Hash, Chain, tip_hash}
+use Rattle.cf_headers.specs.Chain.{Hash, Chain, tip_hash, IsAbove}
 use Rattle.cf_headers.specs.Heights.{hash_at, common_of}
 use Rattle.cf_peer.specs.declared.mode.Mode.{Mode}
 use Rattle.cf_peer.specs.declared.peer.Peer.{Peer}
@@ -29,7 +29,6 @@ use Rattle.cf_sync.specs.Fetching.{IsBlockOpen, IsConnected, IsAskedOutIn, IsTes
 use Rattle.cf_sync.proofs.Counted.{same_use}
 use Rattle.cf_holds.proofs.KeptOpens.{settled_else}
 use Rattle.cf_holds.proofs.Tables.{history_over}
-use Rattle.cf_tables.specs.Wanting.{IsAbove}
 use Rattle.cf_hear.specs.Seen.{Seen}
 use Rattle.cf_hear.specs.Tracks.{Tracks}
 use Rattle.cf_seek.specs.Tracking.{IsBestChain, IsReport}

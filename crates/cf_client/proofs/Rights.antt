@@ -10,9 +10,9 @@ use Rattle.std.proofs.lemmas.List.{length-map, length-reverse}
 use Rattle.cf_bytes.specs.declared.hash.Hash32.{Hash32}
 use Rattle.cf_block.specs.Header.{block_hash_of, genesis_header}
 use Rattle.cf_dispute.specs.declared.claim.Claim.{Claim}
-use Rattle.cf_dispute.specs.Claims.{Table, Tables, first_header, header_at}
+use Rattle.cf_dispute.specs.Claims.{Table, Tables, first_filter_header, header_at}
 use Rattle.cf_dispute.proofs.PutIn.{same_from}
-use Rattle.cf_headers.specs.Chain.{Hash, Chain, above, lower, IsIn}
+use Rattle.cf_headers.specs.Chain.{Hash, Chain, above, lower, IsIn, IsAbove}
 use Rattle.cf_headers.specs.Heights.{hash_at}
 use Rattle.cf_headers.specs.Rules.{same}
 use Rattle.cf_peer.specs.declared.peer.Peer.{Peer}
@@ -25,7 +25,7 @@ use Rattle.cf_tables.proofs.Told.{first_is}
 use Rattle.cf_seek.specs.declared.spans.Span.{Span}
 use Rattle.cf_seek.specs.Ends.{AreUnclaimed}
 use Rattle.cf_seek.specs.Spans.{IsSpan}
-use Rattle.cf_tables.specs.Wanting.{IsAbove, AreClaimed}
+use Rattle.cf_tables.specs.Wanting.{AreClaimed}
 use Rattle.cf_place.specs.declared.place.Place.{Place}
 use Rattle.cf_place.specs.declared.place.Place.TheVariants.{Here, Lost}
 use Rattle.cf_place.specs.Places.{nobody}
@@ -86,12 +86,12 @@ right_at places tables p peer here right = subst (λ (x : Place). IsRightAt x (t
 -- ---- what is asked for agrees
 
 -- the filter header at a block is known where it is genesis or claimed
-pub header_known : (table : Table) (block : Hash) → (IsAbove block → IsSome (table block)) → IsSome (header_at first_header table block)
+pub header_known : (table : Table) (block : Hash) → (IsAbove block → IsSome (table block)) → IsSome (header_at first_filter_header table block)
 header_known table block claimed = elim (cases_Bool (same (block_hash_of genesis_header) block)) [
-  | inl is ↦ subst IsSome (sym (ap (λ (b : Bool). if b then Some first_header else option_map (λ (c : Claim). c.header) (table block)) is)) refl
+  | inl is ↦ subst IsSome (sym (ap (λ (b : Bool). if b then Some first_filter_header else option_map (λ (c : Claim). c.header) (table block)) is)) refl
   | inr off ↦ (
       let c = some_is (table block) (claimed (λ e. both_ways (same (block_hash_of genesis_header) block) off (same_from (block_hash_of genesis_header) block (sym e)))) in
-      subst IsSome (sym (ap (λ (b : Bool). if b then Some first_header else option_map (λ (c : Claim). c.header) (table block)) off ∙ ap (option_map (λ (c : Claim). c.header)) c.1)) refl)
+      subst IsSome (sym (ap (λ (b : Bool). if b then Some first_filter_header else option_map (λ (c : Claim). c.header) (table block)) off ∙ ap (option_map (λ (c : Claim). c.header)) c.1)) refl)
 ] where
   some_is : (o : Option Claim) → IsSome o → (c : Claim) × (o ≡ Some c)
   some_is None s = cc s

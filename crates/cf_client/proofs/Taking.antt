@@ -26,10 +26,9 @@ use Rattle.cf_peer.specs.declared.peer.Cause.TheVariants.{SendFailed, Omits}
 use Rattle.cf_peer.specs.declared.peer.Peer.{Peer}
 use Rattle.cf_peer.specs.Acts.{bytes_of, IsSendable, IsDoable}
 use Rattle.cf_wires.specs.Log.{Log, tally_of}
-use Rattle.cf_peer.specs.Trail.{Trail, Part, Asked, Lost as LostItem, item_of, item_of_read, hears, hears_fault, heard_part, part_of, trail, went_on, with_item, is_connected, has_failed, is_greeted, has_version, own, is_heard_out, replies_owed, replies_sent, as_reply}
+use Rattle.cf_peer.specs.Trail.{Trail, Part, Asked, Lost as LostItem, item_of, item_of_read, hears, hears_fault, heard_part, part_of, trail, went_on, with_item, is_connected, has_failed, is_greeted, has_version, own, is_heard_out, replies_owed, replies_sent, as_reply, IsReply}
 use Rattle.cf_peer.specs.Asking.{claims, request, verdict, counted, IsNextReply}
 use Rattle.cf_peer.specs.Peer.{Holds, calm}
-use Rattle.cf_peer.specs.Hearing.{IsReply}
 use Rattle.cf_dispute.specs.Claims.{Table, no_claims}
 use Rattle.cf_headers.specs.Chain.{Hash}
 use Rattle.cf_sync.specs.Fetching.{MaySendIn, Rule, blocks_open, filters_open}

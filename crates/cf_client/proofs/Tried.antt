@@ -4,14 +4,14 @@ use Rattle.std.specs.Prelude.{IsSome, option_map}
 use Rattle.cf_bytes.specs.declared.hash.Hash32.{Hash32}
 use Rattle.cf_dispute.specs.declared.claim.At.TheVariants.{Differ}
 use Rattle.cf_dispute.specs.Claims.{IsAt}
-use Rattle.cf_headers.specs.Chain.{Hash, Chain, tip_hash}
+use Rattle.cf_headers.specs.Chain.{Hash, Chain, tip_hash, IsAbove}
 use Rattle.cf_headers.specs.Heights.{hash_at, common_of}
 use Rattle.cf_wires.specs.Log.{Log}
 use Rattle.cf_peer.specs.Trail.{own}
 use Rattle.cf_scan.specs.declared.extracts.TxExtract.{TxExtract}
 use Rattle.cf_headers.proofs.Commons.{common_low}
 use Rattle.cf_headers.proofs.Found.{back_ends, found_low}
-use Rattle.cf_sync.specs.Fetching.{counted_part, IsAbove, IsConnected, IsDisputed, IsFetchedHash, IsTestedThrough, IsTestedWith}
+use Rattle.cf_sync.specs.Fetching.{counted_part, IsConnected, IsDisputed, IsFetchedHash, IsTestedThrough, IsTestedWith}
 use Rattle.cf_holds.proofs.Kept.{by_claims}
 use Rattle.cf_hear.specs.Seen.{Seen}
 use Rattle.cf_hear.specs.Tracks.{Tracks}

@@ -4,8 +4,8 @@ use Rattle.std.specs.List.{flat_map}
 use Rattle.cf_block.specs.declared.tx.Block.{Block}
 use Rattle.cf_block.specs.Commitment.{spelled_txs}
 use Rattle.cf_block.specs.Merkle.{Among, NoClash, nodes, txids}
-use Rattle.cf_chain.specs.Good.{IsGoodChain, max_height}
-use Rattle.cf_headers.specs.Chain.{IsIn, NoHashClash}
+use Rattle.cf_chain.specs.Good.{IsGoodChain}
+use Rattle.cf_headers.specs.Chain.{height_limit, IsIn, NoHashClash}
 use Rattle.cf_make.specs.Made.{IsExtension, seed_limit}
 use Rattle.cf_make.proofs.MadeLaws.{chain_is_good}
 use Rattle.cf_wires.specs.Log.{Log}
@@ -50,13 +50,13 @@ is_hashed log blocks s h =
 no_clash : (log : Log) (blocks : List Block) → NoHashClash (IsHashed log blocks) → NoClash (flat_map spelled_txs blocks)
 no_clash log blocks clash = λ a b x y same. clash.apart a b (is_hashed log blocks a x) (is_hashed log blocks b y) same
 
-pub made_good : (seed n : ℕ) (chain : List Block) (log : Log) → seed < seed_limit → n ≤ max_height → IsExtension [] seed n chain → NoHashClash (IsHashed log chain) → IsGoodChain chain
+pub made_good : (seed n : ℕ) (chain : List Block) (log : Log) → seed < seed_limit → n ≤ height_limit → IsExtension [] seed n chain → NoHashClash (IsHashed log chain) → IsGoodChain chain
 made_good seed n chain log small low made clash = chain_is_good seed n chain small low made (no_clash log chain clash)
 
 pub made_length : (seed n : ℕ) (chain : List Block) → IsExtension [] seed n chain → length chain ≡ n
 made_length seed n chain made = ap (λ (bs : List Block). length bs) made.joined ∙ made.count
 
-pub two_made : (seed n : ℕ) (chain longer : List Block) (log : Log) → seed < 2 ^ 32 → n + 2 ≤ max_height → IsExtension [] seed n chain → IsExtension [] (seed + 1) (n + 2) longer → IsApart chain longer log
+pub two_made : (seed n : ℕ) (chain longer : List Block) (log : Log) → seed < 2 ^ 32 → n + 2 ≤ height_limit → IsExtension [] seed n chain → IsExtension [] (seed + 1) (n + 2) longer → IsApart chain longer log
     → AreTwoChains chain longer log
 two_made seed n chain longer log small low made made_longer apart =
     let short = made_length seed n chain made in
@@ -70,12 +70,12 @@ two_made seed n chain longer log small low made made_longer apart =
     }
 
 -- where a peer on it is refused, two of its strings clash
-pub refused_unmade : (seed n : ℕ) (chain : List Block) (why : Unplayed) → seed < seed_limit → n ≤ max_height → IsExtension [] seed n chain → IsRefusedFor chain why → IsUnmade seed n why
+pub refused_unmade : (seed n : ℕ) (chain : List Block) (why : Unplayed) → seed < seed_limit → n ≤ height_limit → IsExtension [] seed n chain → IsRefusedFor chain why → IsUnmade seed n why
 refused_unmade seed n chain (NoNonce at) small low made refused = absurd refused
 refused_unmade seed n chain Clash small low made refused = (chain, made, λ apart. refused (chain_is_good seed n chain small low made apart))
 refused_unmade seed n chain NoMemory small low made refused = tt
 
-pub demo_unplayed : (seed n : ℕ) (chain longer : List Block) (why : Unplayed) → seed < 2 ^ 32 → n + 2 ≤ max_height → IsExtension [] seed n chain → IsExtension [] (seed + 1) (n + 2) longer
+pub demo_unplayed : (seed n : ℕ) (chain longer : List Block) (why : Unplayed) → seed < 2 ^ 32 → n + 2 ≤ height_limit → IsExtension [] seed n chain → IsExtension [] (seed + 1) (n + 2) longer
     → IsRefusedFor chain why ⊎ IsRefusedFor longer why → IsUnplayed seed n why
 demo_unplayed seed n chain longer why small low made made_longer (inl refused) = inl (refused_unmade seed n chain why (omega (arith, small)) (omega (arith, low)) made refused)
 demo_unplayed seed n chain longer why small low made made_longer (inr refused) = inr ((chain, made), refused_unmade (seed + 1) (n + 2) longer why (omega (arith, small)) (omega (arith, low)) made_longer refused)

@@ -9,7 +9,8 @@ use Rattle.std.proofs.Math.Logic.{∥∥₁_map}
 use Rattle.cf_block.specs.declared.tx.Block.{Block}
 use Rattle.cf_bytes.specs.declared.hash.Hash32.{Hash32}
 use Rattle.cf_bytes.specs.declared.memory.NoMemory.{NoMemory}
-use Rattle.cf_chain.specs.Good.{IsGoodChain, max_height}
+use Rattle.cf_chain.specs.Good.{IsGoodChain}
+use Rattle.cf_headers.specs.Chain.{height_limit, NoHashClash}
 use Rattle.cf_run.specs.declared.outcome.End.{End}
 use Rattle.cf_run.specs.declared.outcome.End.TheVariants.{Synced, NoPeers, Tired, Ended}
 use Rattle.cf_run.specs.declared.outcome.Outcome.{Outcome}
@@ -19,7 +20,6 @@ use Rattle.cf_run.specs.Names.{names_in}
 use Rattle.cf_run.specs.Run.{RanTo, IsEnd}
 use Rattle.cf_run.specs.Whole.{EndsWithin, IsOutcome}
 use Rattle.cf_run.specs.declared.trace.TraceLine.{TraceLine}
-use Rattle.cf_headers.specs.Chain.{NoHashClash}
 use Rattle.cf_headers.specs.Store.{Chains}
 use Rattle.cf_make.proofs.MadeLaws.{extension_one}
 use Rattle.cf_wires.specs.declared.event.Delivery.TheVariants.{Ended as EndedFirst}
@@ -141,7 +141,7 @@ history_told chain height o demo told h = record {
   tip = ap (λ (t : Hash32). t.0) told.tip ∙ h.tip_is;
 }
 
-demo_on : (seed blocks : ℕ) (peers : List Peer) (o : Outcome) (demo : Demo) (log : Log) → seed < 2 ^ 32 → blocks + 2 ≤ max_height → HavePrepared seed blocks peers
+demo_on : (seed blocks : ℕ) (peers : List Peer) (o : Outcome) (demo : Demo) (log : Log) → seed < 2 ^ 32 → blocks + 2 ≤ height_limit → HavePrepared seed blocks peers
     → HasRunOver demo_watch peers demo_names o log → IsToldBy o demo → IsDemo seed blocks demo log
 demo_on seed blocks peers o demo log small low h ran told =
     let accounts : Accounts log (three_peers h.added.first h.added.second h.added.third) = subst (Accounts log) h.added.are ran.accounts in
@@ -176,14 +176,14 @@ demo_on seed blocks peers o demo log small low h ran told =
       unended = λ is. goes_on o.end log ran.followed.why ran.accounts.stays (sym told.end ∙ is);
     }
 
-pub demo_so : (seed blocks : ℕ) (watch : List (List ℕ)) (peers : List Peer) (names : List (List ℕ)) (o : Outcome) (demo : Demo) (log : Log) → seed < 2 ^ 32 → blocks + 2 ≤ max_height → HavePrepared seed blocks peers
+pub demo_so : (seed blocks : ℕ) (watch : List (List ℕ)) (peers : List Peer) (names : List (List ℕ)) (o : Outcome) (demo : Demo) (log : Log) → seed < 2 ^ 32 → blocks + 2 ≤ height_limit → HavePrepared seed blocks peers
     → watch ≡ demo_watch → names ≡ demo_names → HasRunOver watch peers names o log → IsToldBy o demo → IsDemo seed blocks demo log
 demo_so seed blocks watch peers names o demo log small low h watched named ran told =
     demo_on seed blocks peers o demo log small low h (subst (λ (w : List (List ℕ)). HasRunOver w peers demo_names o log) watched (subst (λ (n : List (List ℕ)). HasRunOver watch peers n o log) named ran)) told
 
 -- ---- a session
 
-session_on : (seed blocks : ℕ) (peers : List Peer) (o : Outcome) (log : Log) → seed < 2 ^ 32 → blocks ≤ max_height → HasPrepared seed blocks peers → HasRunOver demo_watch peers session_names o log
+session_on : (seed blocks : ℕ) (peers : List Peer) (o : Outcome) (log : Log) → seed < 2 ^ 32 → blocks ≤ height_limit → HasPrepared seed blocks peers → HasRunOver demo_watch peers session_names o log
     → IsSession seed blocks log
 session_on seed blocks peers o log small low h ran =
     let honest : NoHashClash (IsHashed log h.chain) → IsHonest log 1 h.chain = λ clash.
@@ -202,7 +202,7 @@ session_on seed blocks peers o log small low h ran =
       quiet = at_rest o.end log ran.followed.why ran.accounts.stays ran.tired;
     }
 
-pub session_so : (seed blocks : ℕ) (watch : List (List ℕ)) (peers : List Peer) (names : List (List ℕ)) (o : Outcome) (log : Log) → seed < 2 ^ 32 → blocks ≤ max_height → HasPrepared seed blocks peers
+pub session_so : (seed blocks : ℕ) (watch : List (List ℕ)) (peers : List Peer) (names : List (List ℕ)) (o : Outcome) (log : Log) → seed < 2 ^ 32 → blocks ≤ height_limit → HasPrepared seed blocks peers
     → watch ≡ demo_watch → names ≡ session_names → HasRunOver watch peers names o log → IsSession seed blocks log
 session_so seed blocks watch peers names o log small low h watched named ran =
     session_on seed blocks peers o log small low h (subst (λ (w : List (List ℕ)). HasRunOver w peers session_names o log) watched (subst (λ (n : List (List ℕ)). HasRunOver watch peers n o log) named ran))

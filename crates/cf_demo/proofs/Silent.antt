@@ -8,7 +8,7 @@ use Rattle.cf_block.specs.declared.tx.Block.{Block}
 use Rattle.cf_block.specs.Header.{block_hash_of, genesis_header}
 use Rattle.cf_chain.specs.Good.{IsGoodChain, headers_of}
 use Rattle.cf_chain.specs.Serve.{replies, replies_to, headers_reply, block_with}
-use Rattle.cf_dispute.specs.Claims.{Table, no_claims, first_header, header_at}
+use Rattle.cf_dispute.specs.Claims.{Table, no_claims, first_filter_header, header_at}
 use Rattle.cf_frame.specs.declared.frame.Frame.{Frame}
 use Rattle.cf_frame.specs.declared.frame.FrameFault.{FrameFault}
 use Rattle.cf_frame.specs.Stream.{StreamRead, read_stream}
@@ -357,7 +357,7 @@ silent_idle log p blocks bytes good clash right numbered greets some few plays o
     record { honest = honest; none = whole.claiming ∙ st.none; same_own = whole.chain; same_heard = whole.hearing Once }
 
 -- and its chain isn't the best one
-no_claim_at : (block : Hash) (cs : Table) → cs ≡ no_claims → same (block_hash_of genesis_header) block ≡ false → IsSome (header_at first_header cs block) → ⊥
+no_claim_at : (block : Hash) (cs : Table) → cs ≡ no_claims → same (block_hash_of genesis_header) block ≡ false → IsSome (header_at first_filter_header cs block) → ⊥
 no_claim_at block cs none off known =
     let w = claim_there cs block off known in
     let e : no_claims block ≡ Some w.0 = ap (λ (table : Table). table block) (sym none) ∙ w.1 in

@@ -25,7 +25,7 @@ use Rattle.cf_msg.specs.Command.{getdata_command}
 use Rattle.cf_msg.specs.declared.msg.Msg.{Msg}
 use Rattle.cf_msg.specs.declared.msg.Msg.TheVariants.{GetData}
 use Rattle.cf_wires.specs.declared.event.Event.{Event}
-use Rattle.cf_wires.specs.declared.event.Event.TheVariants.{Dialled, NotDialled, Sent, SendFailed, Closed, Took}
+use Rattle.cf_wires.specs.declared.event.Event.TheVariants.{Sent, Closed}
 use Rattle.cf_wires.specs.Log.{Log, tally_of}
 use Rattle.cf_peer.specs.Trail.{spelled}
 use Rattle.cf_played.specs.declared.kind.Manner.TheVariants.{Honest as HonestKind}
@@ -131,20 +131,12 @@ is_getdata m = false
 -- a getdata was sent
 abbrev pub is_fetch : Event → Bool
 is_fetch (Sent p bytes) = is_getdata (spelled bytes)
-is_fetch (Dialled p name) = false
-is_fetch (NotDialled p name) = false
-is_fetch (SendFailed p) = false
-is_fetch (Closed p) = false
-is_fetch (Took d) = false
+is_fetch _ = false
 
 -- a peer was closed
 abbrev pub is_close : Event → Bool
 is_close (Closed p) = true
-is_close (Sent p bytes) = false
-is_close (Dialled p name) = false
-is_close (NotDialled p name) = false
-is_close (SendFailed p) = false
-is_close (Took d) = false
+is_close _ = false
 
 -- so it is of a line of a trace
 abbrev pub is_fetch_line : TraceLine → Bool

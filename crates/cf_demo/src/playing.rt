@@ -1,6 +1,7 @@
 //! Runs of the client over peers in memory on made chains.
 ghost use Rattle.std.specs.Prelude.{◌≡◌, ◌≢◌, ◌⊎◌, ◌≤◌, ◌<◌, ◌+◌, ◌++◌, ◌∷◌, ℕ, [], map, length, IfOk, IfErr, OnOk, true, false};
-ghost use Rattle.cf_chain.specs.{max_height, IsGoodChain};
+ghost use Rattle.cf_chain.specs.{IsGoodChain};
+ghost use Rattle.cf_headers.specs.Chain.{height_limit};
 ghost use Rattle.cf_run.specs.{names_in};
 ghost use Rattle.cf_demo.specs.Demo.{IsDemo, IsSession, IsToldBy, IsUnmade, IsUnplayed, IsRefusedFor, ArePlayed, HavePrepared, HasPrepared, HasRunOver, AreAdded, demo_watch, demo_names, session_names};
 ghost use Rattle.cf_make.specs.{IsExtension, seed_limit};
@@ -28,7 +29,7 @@ const MOST_DELIVERIES: u32 = 10_000_000;
 // The chain of so many blocks that the seed tells.
 fn make(alloc: Global, seed: u64, blocks: u32) -> Result<Chain, Unplayed>
     requires seeds { seed < seed_limit }
-    requires heights { blocks ≤ max_height }
+    requires heights { blocks ≤ height_limit }
     ensures ok { IfOk result (λ made. IsExtension [] seed blocks made) }
     ensures err { IfErr result (λ why. IsUnmade seed blocks why) }
 {
@@ -182,7 +183,7 @@ fn prepare_demo(
 ) -> Result<Watch, Unplayed>
     requires new { log_of played.old ≡ [] }
     requires none { peers_of played.old ≡ [] }
-    requires most { blocks + 2 ≤ max_height }
+    requires most { blocks + 2 ≤ height_limit }
     ensures ok { OnOk result (HavePrepared seed blocks (peers_of played.new)) }
     ensures watch { IfOk result (λ watch. watch ≡ demo_watch) }
     ensures err { IfErr result (λ why. IsUnplayed seed blocks why) }
@@ -208,7 +209,7 @@ fn prepare_session(
 ) -> Result<Watch, Unplayed>
     requires new { log_of played.old ≡ [] }
     requires none { peers_of played.old ≡ [] }
-    requires most { blocks ≤ max_height }
+    requires most { blocks ≤ height_limit }
     ensures ok { OnOk result (HasPrepared seed blocks (peers_of played.new)) }
     ensures watch { IfOk result (λ watch. watch ≡ demo_watch) }
     ensures err { IfErr result (λ why. IsUnmade seed blocks why) }
@@ -242,7 +243,7 @@ pub fn play_demo<M: Matcher + Drop>(
     requires none { peers_of played.old ≡ [] }
     requires open { finished_of played.old ≡ false }
     requires some { 1 ≤ blocks }
-    requires most { blocks + 2 ≤ max_height }
+    requires most { blocks + 2 ≤ height_limit }
     ensures ok { IfOk result (λ demo. IsDemo seed blocks demo (log_of played.new)) }
     ensures peers { OnOk result (ArePlayed seed blocks (peers_of played.new)) }
     ensures finished { OnOk result (finished_of played.new ≡ true) }
@@ -274,7 +275,7 @@ pub fn play_session<M: Matcher + Drop>(
     requires new { log_of played.old ≡ [] }
     requires none { peers_of played.old ≡ [] }
     requires open { finished_of played.old ≡ false }
-    requires most { blocks ≤ max_height }
+    requires most { blocks ≤ height_limit }
     ensures ok { OnOk result (IsSession seed blocks (log_of played.new)) }
     ensures finished { OnOk result (finished_of played.new ≡ true) }
     ensures err { IfErr result (λ why. IsUnmade seed blocks why) }

@@ -23,19 +23,19 @@ use Rattle.cf_server.specs.Taking.{with_messages, ComesInside}
 -- ---- message by message
 
 -- one message was answered by a good chain on which the mark stands: this is written, and the mark stands there next
-pub record Answers (now : ℤ) (nonce : ℕ) (mark : TipMark) (m : Msg) (next : TipMark) (text : List ℕ) : Type 0 where
+pub record Answers (moment : ℤ) (nonce : ℕ) (mark : TipMark) (m : Msg) (next : TipMark) (text : List ℕ) : Type 0 where
   pub chain : List Block
   pub good : IsGoodChain chain
   pub stands : StandsOn chain mark
-  pub written : text ≡ text_of (grow_answer now nonce chain mark m).replies
-  pub moved : next ≡ (grow_answer now nonce chain mark m).mark
+  pub written : text ≡ text_of (grow_answer moment nonce chain mark m).replies
+  pub moved : next ≡ (grow_answer moment nonce chain mark m).mark
 
 -- the same of messages, one after another, each with the mark that the one before has left
 abbrev pub AnswersEach : ℤ → ℕ → TipMark → List Msg → TipMark → List ℕ → Type 0
-AnswersEach now nonce mark [] last text = (last ≡ mark) × (text ≡ [])
-AnswersEach now nonce mark (m ∷ ms) last text =
+AnswersEach moment nonce mark [] last text = (last ≡ mark) × (text ≡ [])
+AnswersEach moment nonce mark (m ∷ ms) last text =
     (next : TipMark) × (first : List ℕ) × (rest : List ℕ)
-    × Answers now nonce mark m next first × AnswersEach now nonce next ms last rest × (text ≡ first ++ rest)
+    × Answers moment nonce mark m next first × AnswersEach moment nonce next ms last rest × (text ≡ first ++ rest)
 
 -- ---- how serving ends
 
@@ -50,20 +50,20 @@ ending_of (NotThere s) = Shrunk s
 ending_of OutOfMemory = Served NoMemory
 
 -- all messages were answered
-pub record AllWritten (now : ℤ) (nonce : ℕ) (mark : TipMark) (messages : List Msg) (before after : Option (List ℕ)) : Type 0 where
+pub record AllWritten (moment : ℤ) (nonce : ℕ) (mark : TipMark) (messages : List Msg) (before after : Option (List ℕ)) : Type 0 where
   pub last : TipMark
   pub text : List ℕ
-  pub each : AnswersEach now nonce mark messages last text
+  pub each : AnswersEach moment nonce mark messages last text
   pub whole : Whole before after text
 
 -- some of them from the first on were answered, and of what is written for these a beginning stands
-pub record SomeWritten (now : ℤ) (nonce : ℕ) (mark : TipMark) (messages : List Msg) (before after : Option (List ℕ)) : Type 0 where
+pub record SomeWritten (moment : ℤ) (nonce : ℕ) (mark : TipMark) (messages : List Msg) (before after : Option (List ℕ)) : Type 0 where
   pub answered : List Msg
   pub others : List Msg
   pub split : messages ≡ answered ++ others
   pub last : TipMark
   pub text : List ℕ
-  pub each : AnswersEach now nonce mark answered last text
+  pub each : AnswersEach moment nonce mark answered last text
   pub begins : Beginning before after text
 
 -- some good chain has another hash at the height that was told, or is lower: these are the hash told and the one there
@@ -76,7 +76,7 @@ pub record IsShrunk (mark : TipMark) (hashes : Hashes) : Type 0 where
   pub other : hashes.found ≡ Some hashes.seen → ⊥
 
 -- all before one of them were answered, and that one finds a mark that a `version` has set, and a chain that hasn't it
-pub record WrittenBefore (hashes : Hashes) (now : ℤ) (nonce : ℕ) (mark : TipMark) (messages : List Msg)
+pub record WrittenBefore (hashes : Hashes) (moment : ℤ) (nonce : ℕ) (mark : TipMark) (messages : List Msg)
     (before after : Option (List ℕ)) : Type 0 where
   pub answered : List Msg
   pub refused : Msg
@@ -86,15 +86,15 @@ pub record WrittenBefore (hashes : Hashes) (now : ℤ) (nonce : ℕ) (mark : Tip
   pub met : is_met last ≡ true
   pub shrunk : IsShrunk last hashes
   pub text : List ℕ
-  pub each : AnswersEach now nonce mark answered last text
+  pub each : AnswersEach moment nonce mark answered last text
   pub whole : Whole before after text
 
 -- what is written by then
 abbrev pub Writes : Ending → ℤ → ℕ → TipMark → List Msg → Option (List ℕ) → Option (List ℕ) → Type 0
-Writes (Served WriteFault) now nonce mark messages before after = SomeWritten now nonce mark messages before after
-Writes (Served NoMemory) now nonce mark messages before after = SomeWritten now nonce mark messages before after
-Writes (Served outcome) now nonce mark messages before after = AllWritten now nonce mark messages before after
-Writes (Shrunk s) now nonce mark messages before after = WrittenBefore s now nonce mark messages before after
+Writes (Served WriteFault) moment nonce mark messages before after = SomeWritten moment nonce mark messages before after
+Writes (Served NoMemory) moment nonce mark messages before after = SomeWritten moment nonce mark messages before after
+Writes (Served outcome) moment nonce mark messages before after = AllWritten moment nonce mark messages before after
+Writes (Shrunk s) moment nonce mark messages before after = WrittenBefore s moment nonce mark messages before after
 
 -- an outcome comes exactly there
 abbrev pub Comes : Ending → Stop → Type 0
@@ -102,11 +102,11 @@ Comes (Served outcome) stop = ComesAt outcome stop
 Comes (Shrunk s) stop = Unit {0}
 
 -- Of a connection whose source told these bytes: those of them that were taken, where the ending comes, and what was written for them.
-pub record IsServedGrowing (now : ℤ) (nonce : ℕ) (ending : Ending) (bytes : List ℕ) (left before after : Option (List ℕ)) : Type 0 where
+pub record IsServedGrowing (moment : ℤ) (nonce : ℕ) (ending : Ending) (bytes : List ℕ) (left before after : Option (List ℕ)) : Type 0 where
   pub taken : List ℕ
   pub rest : Some bytes ≡ with_front taken left
   pub comes : Comes ending (course most_frames taken).stop
-  pub writes : Writes ending now nonce NotMet (course most_frames taken).messages before after
+  pub writes : Writes ending moment nonce NotMet (course most_frames taken).messages before after
 
 -- a fault comes only where its count has risen; the counts of reading and of writing stand still otherwise
 abbrev pub CountsOf : Ending → ℕ → ℕ → ℕ → ℕ → Type 0
@@ -126,32 +126,32 @@ CountsSends (Err (Served WriteFault)) before after = HasRisen before after
 CountsSends result before after = after ≡ before
 
 -- what became of a frame
-pub record Answered (now : ℤ) (nonce : ℕ) (read : Result Msg Malformed) (old new : TipMark) (before after : Option (List ℕ)) : Type 0 where
+pub record Answered (moment : ℤ) (nonce : ℕ) (read : Result Msg Malformed) (old new : TipMark) (before after : Option (List ℕ)) : Type 0 where
   pub message : Msg
   pub is : read ≡ Ok message
   pub text : List ℕ
-  pub answers : Answers now nonce old message new text
+  pub answers : Answers moment nonce old message new text
   pub written : Whole before after text
 
-pub record Begun (now : ℤ) (nonce : ℕ) (read : Result Msg Malformed) (old : TipMark) (before after : Option (List ℕ)) : Type 0 where
+pub record Begun (moment : ℤ) (nonce : ℕ) (read : Result Msg Malformed) (old : TipMark) (before after : Option (List ℕ)) : Type 0 where
   pub message : Msg
   pub is : read ≡ Ok message
   pub next : TipMark
   pub text : List ℕ
-  pub answers : Answers now nonce old message next text
+  pub answers : Answers moment nonce old message next text
   pub begins : Beginning before after text
 
 -- a frame that can't be answered has nothing written for it, or a beginning
 abbrev pub Fails : ℤ → ℕ → Result Msg Malformed → TipMark → Option (List ℕ) → Option (List ℕ) → Type 0
-Fails now nonce read old before after = (after ≡ before) ⊎ Begun now nonce read old before after
+Fails moment nonce read old before after = (after ≡ before) ⊎ Begun moment nonce read old before after
 
 abbrev pub AnswersFrame : Result (Unit {0}) Ending → ℤ → ℕ → Result Msg Malformed → TipMark → TipMark → Option (List ℕ) → Option (List ℕ) → Type 0
-AnswersFrame (Ok x) now nonce read old new before after = Answered now nonce read old new before after
-AnswersFrame (Err (Served (MalformedFrame fault))) now nonce read old new before after = (read ≡ Err fault) × (after ≡ before)
-AnswersFrame (Err (Served WriteFault)) now nonce read old new before after = Fails now nonce read old before after
-AnswersFrame (Err (Served NoMemory)) now nonce read old new before after = Fails now nonce read old before after
-AnswersFrame (Err (Served outcome)) now nonce read old new before after = ⊥
-AnswersFrame (Err (Shrunk s)) now nonce read old new before after =
+AnswersFrame (Ok x) moment nonce read old new before after = Answered moment nonce read old new before after
+AnswersFrame (Err (Served (MalformedFrame fault))) moment nonce read old new before after = (read ≡ Err fault) × (after ≡ before)
+AnswersFrame (Err (Served WriteFault)) moment nonce read old new before after = Fails moment nonce read old before after
+AnswersFrame (Err (Served NoMemory)) moment nonce read old new before after = Fails moment nonce read old before after
+AnswersFrame (Err (Served outcome)) moment nonce read old new before after = ⊥
+AnswersFrame (Err (Shrunk s)) moment nonce read old new before after =
     ((message : Msg) × (read ≡ Ok message)) × (is_met old ≡ true) × IsShrunk old s × (after ≡ before)
 
 -- the next frame, if one waits
@@ -163,28 +163,28 @@ FindsFrame (Err (Served NoMemory)) old new = Unit {0}
 FindsFrame (Err ending) old new = ⊥
 
 -- Frames were taken and answered: so many may still come, and these bytes wait. Whatever follows, what is left leads to the same end.
-pub record Moves (now : ℤ) (nonce : ℕ) (frames frames_after : ℕ) (waits waits_after : List ℕ) (old new : TipMark) (before after : Option (List ℕ)) : Type 0 where
+pub record Moves (moment : ℤ) (nonce : ℕ) (frames frames_after : ℕ) (waits waits_after : List ℕ) (old new : TipMark) (before after : Option (List ℕ)) : Type 0 where
   pub messages : List Msg
   pub leads : (more : List ℕ) → course frames (waits ++ more) ≡ with_messages messages (course frames_after (waits_after ++ more))
   pub text : List ℕ
-  pub each : AnswersEach now nonce old messages new text
+  pub each : AnswersEach moment nonce old messages new text
   pub written : Whole before after text
 
 -- an end of serving: where it comes, and what is written by then
-pub record Stops (now : ℤ) (nonce : ℕ) (ending : Ending) (frames : ℕ) (waits : List ℕ) (mark : TipMark) (before after : Option (List ℕ)) : Type 0 where
+pub record Stops (moment : ℤ) (nonce : ℕ) (ending : Ending) (frames : ℕ) (waits : List ℕ) (mark : TipMark) (before after : Option (List ℕ)) : Type 0 where
   pub comes : Comes ending (course frames waits).stop
-  pub writes : Writes ending now nonce mark (course frames waits).messages before after
+  pub writes : Writes ending moment nonce mark (course frames waits).messages before after
 
 -- all frames that wait were taken, or serving ends
 abbrev pub TakesFrames : Result (Unit {0}) Ending → ℤ → ℕ → ℕ → ℕ → List ℕ → List ℕ → TipMark → TipMark → Option (List ℕ) → Option (List ℕ) → Type 0
-TakesFrames (Ok x) now nonce frames frames_after waits waits_after old new before after = Moves now nonce frames frames_after waits waits_after old new before after
-TakesFrames (Err ending) now nonce frames frames_after waits waits_after old new before after = Stops now nonce ending frames waits old before after
+TakesFrames (Ok x) moment nonce frames frames_after waits waits_after old new before after = Moves moment nonce frames frames_after waits waits_after old new before after
+TakesFrames (Err ending) moment nonce frames frames_after waits waits_after old new before after = Stops moment nonce ending frames waits old before after
 
 -- on the way through the bytes that a source told
-pub record Midway (now : ℤ) (nonce : ℕ) (bytes : List ℕ) (left : Option (List ℕ)) (frames : ℕ) (waits : List ℕ) (mark : TipMark) (before after : Option (List ℕ)) : Type 0 where
+pub record Midway (moment : ℤ) (nonce : ℕ) (bytes : List ℕ) (left : Option (List ℕ)) (frames : ℕ) (waits : List ℕ) (mark : TipMark) (before after : Option (List ℕ)) : Type 0 where
   pub taken : List ℕ
   pub rest : Some bytes ≡ with_front taken left
-  pub moves : Moves now nonce most_frames frames taken waits NotMet mark before after
+  pub moves : Moves moment nonce most_frames frames taken waits NotMet mark before after
 
 -- an ending that the frames which wait may lead to: the connection's reads don't
 abbrev pub EndsInside : Ending → Type 0

@@ -13,8 +13,8 @@ use Rattle.cf_frame.specs.Lending.{HasFrame, IsFilled, after_frame}
 use Rattle.cf_frame.specs.Reading.{front_of}
 use Rattle.cf_frame.specs.Stream.{read_stream}
 use Rattle.cf_frame.proofs.Lending.{all_taken}
-use Rattle.cf_headers.specs.Chain.{Hash, Chain, Accepted, Longer, NoLonger, Unlinked, Invalid, TooHigh, accept, back_to}
-use Rattle.cf_headers.specs.Changes.{chain_after, change_of, link_height}
+use Rattle.cf_headers.specs.Chain.{Hash, Chain, Accepted, Longer, NoLonger, Unlinked, Invalid, TooHigh, accept, back_to, chain_after}
+use Rattle.cf_headers.specs.Changes.{change_of, link_height}
 use Rattle.cf_headers.specs.Heights.{height_of}
 use Rattle.cf_headers.specs.Store.{Puts, own_of}
 use Rattle.cf_lent.specs.declared.views.View.{View}
@@ -30,9 +30,9 @@ use Rattle.cf_peer.specs.declared.peer.Peer.{Peer}
 use Rattle.cf_peer.specs.declared.peer.Reaction.{Reaction}
 use Rattle.cf_peer.specs.declared.peer.Reaction.TheVariants.{Nothing as NoReply, Send, Close, Expose}
 use Rattle.cf_peer.specs.Acts.{IsSendable, IsDoable}
-use Rattle.cf_peer.specs.Trail.{Trail, Part, Said, part_after, heard_part, fault_in, first, longer_of, ready, has_version, is_connected, own, replies_owed, is_unknown}
+use Rattle.cf_peer.specs.Trail.{Trail, Part, Said, part_after, heard_part, fault_in, first, longer_of, ready, has_version, is_connected, own, replies_owed, is_unknown, IsReply}
 use Rattle.cf_peer.specs.Asking.{OpenRequest, NothingOpen, request, claims, claims_after, counted, fault_of, fetched_blocks, fetched_by, given_filters, given_by, verdict}
-use Rattle.cf_peer.specs.Hearing.{IsReply, Faulty}
+use Rattle.cf_peer.specs.Hearing.{Faulty}
 use Rattle.cf_peer.specs.Peer.{Holds, IsRight, TakesClaims, awaits, cause_of_claims, Hears, is_plain, is_ready_peer}
 use Rattle.cf_peer.proofs.Peers.{other_block, reply_is, same_holds, early_headers, early_own, plain_said}
 use Rattle.cf_peer.proofs.LentLeads.{done_shorter}
@@ -50,7 +50,7 @@ use Rattle.std.specs.Prelude.{IfOk, IsSome, is_none, is_some, not, option_map, u
 use Rattle.cf_block.specs.declared.header.Header.{Header}
 use Rattle.cf_dispute.specs.declared.claim.Claim.{Claim}
 use Rattle.cf_dispute.specs.declared.claim.ClaimFault.{ClaimFault}
-use Rattle.cf_dispute.specs.Claims.{first_header, with_claims}
+use Rattle.cf_dispute.specs.Claims.{first_filter_header, with_claims}
 use Rattle.cf_dispute.specs.Tables.{blocks_of, claim_fault}
 use Rattle.cf_dispute.specs.Claims as dispute
 use Rattle.cf_headers.specs.Rules.{same as same_bytes}
@@ -203,7 +203,7 @@ right_same Nothing a b is h = tt
 right_same (Handshake age) a b is h = tt
 right_same (HeadersAsked age) a b is h = tt
 right_same (ClaimsAsked range age) a b is h = (
-  subst IsSome (ap (λ (o : Option Claim). if same_bytes (block_hash_of genesis_header) range.parent.0 then Some first_header else option_map (λ (c : Claim). c.header) o) (sym (is range.parent.0))) h.0,
+  subst IsSome (ap (λ (o : Option Claim). if same_bytes (block_hash_of genesis_header) range.parent.0 then Some first_filter_header else option_map (λ (c : Claim). c.header) o) (sym (is range.parent.0))) h.0,
   λ block i. is block ∙ h.1 block i,
 )
 right_same (FiltersAsked batch age) a b is h = h

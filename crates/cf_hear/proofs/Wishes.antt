@@ -1,7 +1,7 @@
 -- What is to be asked for by what was seen is needed by the log.
 use Rattle.std.proofs.Common.{◌≡◌, inl, inr, ℕ, suc, ◌+◌, ◌-◌, ◌<◌, ◌≤◌, zero, List, [], ◌∷◌, map, length, get_or, take, drop, reverse, Option, Some, None, Bool, true, if◌then◌else◌, refl, sym, ◌∙◌, ap, subst, arith}
 use Rattle.std.specs.Prelude.{pred, IsSome, false, option_map}
-use Rattle.cf_dispute.specs.Claims.{first_header, no_claims}
+use Rattle.cf_dispute.specs.Claims.{first_filter_header, no_claims}
 use Rattle.cf_dispute.specs.Claims as dispute
 use Rattle.cf_dispute.proofs.PutIn.{same_from}
 use Rattle.cf_headers.specs.Rules.{same}
@@ -12,7 +12,7 @@ use Rattle.cf_bytes.specs.declared.hash.Hash32.{Hash32}
 use Rattle.cf_block.specs.declared.header.Header.{Header}
 use Rattle.cf_block.specs.Header.{block_hash_of, genesis_header}
 use Rattle.cf_dispute.specs.declared.claim.Claim.{Claim}
-use Rattle.cf_headers.specs.Chain.{Hash, Chain, above, back_to, lower, tip_hash, IsIn}
+use Rattle.cf_headers.specs.Chain.{Hash, Chain, above, back_to, lower, tip_hash, IsIn, IsAbove}
 use Rattle.cf_headers.specs.Heights.{hash_at}
 use Rattle.cf_headers.proofs.Accepting.{at_height}
 use Rattle.cf_headers.proofs.Locators.{hash_in}
@@ -35,7 +35,7 @@ use Rattle.cf_seek.specs.Opens.{IsBlockFree, IsFilterFree}
 use Rattle.cf_seek.specs.Seeking.{IsToAsk}
 use Rattle.cf_seek.specs.Spans.{IsSpan, IsWish}
 use Rattle.cf_seek.specs.Testing.{IsTrial, IsTrying}
-use Rattle.cf_tables.specs.Wanting.{IsAbove, IsUnjudged, AreClaimed}
+use Rattle.cf_tables.specs.Wanting.{IsUnjudged, AreClaimed}
 use Rattle.cf_seek.proofs.Along.{hash_of_next}
 use Rattle.std.proofs.lemmas.Bool.{cases_lt, both_ways}
 use Rattle.cf_seek.proofs.Stops.{above_part, parent_is}
@@ -183,7 +183,7 @@ claims_are s log p tracks on clean block =
     tracks.claimed p block ∙ ap (λ (b : Bool). (if b then claims (counted t) else no_claims) block) on ∙ ap (λ (c : dispute.Table). c block) (same_use t on clean).claiming
 
 -- the filter header is known at genesis's hash, and where it claims something
-header_by : (block : Hash) (o : Option Claim) (first : Bool) → (first ≡ false → IsSome o) → IsSome (if first then Some first_header else option_map (λ (c : Claim). c.header) o)
+header_by : (block : Hash) (o : Option Claim) (first : Bool) → (first ≡ false → IsSome o) → IsSome (if first then Some first_filter_header else option_map (λ (c : Claim). c.header) o)
 header_by block o true some = refl
 header_by block None false some = some refl
 header_by block (Some c) false some = refl

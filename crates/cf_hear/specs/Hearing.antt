@@ -12,9 +12,9 @@ use Rattle.cf_peer.specs.declared.peer.Cause.{Cause}
 use Rattle.cf_peer.specs.declared.peer.Peer.{Peer}
 use Rattle.cf_peer.specs.declared.peer.Reaction.{Reaction}
 use Rattle.cf_peer.specs.declared.peer.Reaction.TheVariants.{Nothing as NoReply, Send, Close, Expose}
-use Rattle.cf_peer.specs.Trail.{Trail, Part, Said, is_connected, part_after, has_version, replies_owed, reply_to}
+use Rattle.cf_peer.specs.Trail.{Trail, Part, Said, is_connected, part_after, has_version, replies_owed, reply_to, IsReply}
 use Rattle.cf_peer.specs.Asking.{NothingOpen, claims, request, verdict, counted, fetched_blocks, fetched_by, given_filters, given_by}
-use Rattle.cf_peer.specs.Hearing.{IsReply, Faulty}
+use Rattle.cf_peer.specs.Hearing.{Faulty}
 use Rattle.cf_peer.specs.Peer.{Holds, Hears}
 use Rattle.cf_tables.specs.Tables.{IsSameTable, with_blocks}
 use Rattle.cf_tables.specs.Trials.{TrialsGo, judged_if}

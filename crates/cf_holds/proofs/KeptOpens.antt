@@ -5,7 +5,7 @@ use Rattle.cf_bytes.specs.declared.hash.Hash32.{Hash32}
 use Rattle.cf_dispute.specs.declared.claim.At.{At}
 use Rattle.cf_dispute.specs.declared.claim.At.TheVariants.{Nobody}
 use Rattle.cf_dispute.specs.Claims.{Tables, IsAt}
-use Rattle.cf_headers.specs.Chain.{Hash, IsIn, back_to}
+use Rattle.cf_headers.specs.Chain.{Hash, IsIn, back_to, IsAbove}
 use Rattle.cf_match.specs.Verdicts.{Verdicts}
 use Rattle.cf_msg.specs.declared.msg.Inventory.{Inventory}
 use Rattle.cf_msg.specs.declared.msg.Msg.TheVariants.{GetData, GetCfilters}
@@ -16,7 +16,6 @@ use Rattle.cf_seek.specs.Opens.{Opens, IsFilterFree, IsBlockFree}
 use Rattle.cf_seek.specs.Opening.{IsSameElse, Closes, OpensFilters, OpensBlock}
 use Rattle.cf_seek.specs.Seeking.{IsToAsk, IsToGet}
 use Rattle.cf_tables.specs.Known.{ExtractTable}
-use Rattle.cf_tables.specs.Wanting.{IsAbove}
 use Rattle.cf_sync.specs.Fetching.{filters_open, blocks_open, IsFilterOpen, IsBlockOpen, IsAlone, IsSettled, blocks_in}
 use Rattle.cf_holds.specs.Known.{HoldsFetched, HoldsClaims, HoldsGiven, HoldsOpens, OpensAt}
 use Rattle.cf_holds.proofs.Kept.{done_else, settled_by}

@@ -12,7 +12,7 @@ use Rattle.cf_dispute.specs.Claims.{Tables, IsAt}
 use Rattle.cf_dispute.proofs.PutIn.{same_true, same_from}
 use Rattle.cf_filter.specs.Filter.{filter_hash_of}
 use Rattle.cf_filter.specs.Lacking.{output_items_of, lacks}
-use Rattle.cf_headers.specs.Chain.{Hash, Chain, tip_hash, lower, IsIn}
+use Rattle.cf_headers.specs.Chain.{Hash, Chain, tip_hash, lower, IsIn, IsAbove}
 use Rattle.cf_headers.specs.Heights.{hash_at, common_of}
 use Rattle.cf_headers.specs.Rules.{same}
 use Rattle.cf_headers.proofs.Accepting.{at_height}
@@ -33,7 +33,7 @@ use Rattle.cf_tables.specs.Tests.{found_too}
 use Rattle.cf_tables.specs.Trials.{with_found}
 use Rattle.cf_headers.proofs.Commons.{common_low}
 use Rattle.cf_headers.proofs.Found.{back_ends, found_low}
-use Rattle.cf_sync.specs.Fetching.{counted_part, IsAbove, IsConnected, IsDisputed, IsFetched, IsFetchedHash, IsNoPiece, IsOmission, IsSameFetched, IsTest, IsTested, IsTestedWith, IsTestOf, IsTestWanted, RightlyIn, IsTestedThrough}
+use Rattle.cf_sync.specs.Fetching.{counted_part, IsConnected, IsDisputed, IsFetched, IsFetchedHash, IsNoPiece, IsOmission, IsSameFetched, IsTest, IsTested, IsTestedWith, IsTestOf, IsTestWanted, RightlyIn, IsTestedThrough}
 use Rattle.cf_holds.specs.Known.{HoldsFetched, HoldsClaims, HoldsTests}
 use Rattle.cf_holds.specs.Kept.{AreClean, HoldsOutputs}
 use Rattle.cf_sync.proofs.Answered.{fetched_hash_stays, test_fetched}

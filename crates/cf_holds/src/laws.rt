@@ -4,7 +4,7 @@ ghost use Rattle.cf_bytes.specs.declared.hash.Hash32.{Hash32};
 ghost use Rattle.cf_bytes.specs.declared.peer.PeerNo.{PeerNo};
 ghost use Rattle.cf_block.specs.declared.tx.Block.{Block};
 ghost use Rattle.cf_headers.specs.{IsIn, back_to, common_of};
-ghost use Rattle.cf_headers.specs.Chain.{Chain};
+ghost use Rattle.cf_headers.specs.Chain.{Chain, IsAbove};
 ghost use Rattle.cf_msg.specs.declared.msg.Msg.{Msg};
 ghost use Rattle.cf_msg.specs.declared.msg.Msg.TheVariants.{GetData, GetCfilters};
 ghost use Rattle.cf_wires.specs.declared.event.Delivery.TheVariants.{Got};
@@ -17,7 +17,7 @@ ghost use Rattle.cf_peer.specs.{part_of, trail, is_connected, own, BlockOpen, Fi
 ghost use Rattle.cf_peer.specs.Trail.{Trail};
 ghost use Rattle.cf_scan.specs.{history_of};
 ghost use Rattle.cf_tables.specs.{IsSameTable, placed_by, with_blocks, ExtractTable, TestResults, Paid, TrialsGo, judged_if, IsDone, IsToFetch, IsUnjudged};
-ghost use Rattle.cf_sync.specs.{IsOmission, IsTestedWith, IsBlockWanted, IsFilterWanted, IsTestOf, IsSettled, IsConnected, IsNoPiece, IsSameFetched, IsScanOver, RightlyIn, IsAbove, IsAlone, IsBlockOpen, IsFilterOpen, blocks_in, blocks_open, counted_part, filters_open, IsTestedThrough, is_after_tick};
+ghost use Rattle.cf_sync.specs.{IsOmission, IsTestedWith, IsBlockWanted, IsFilterWanted, IsTestOf, IsSettled, IsConnected, IsNoPiece, IsSameFetched, IsScanOver, RightlyIn, IsAlone, IsBlockOpen, IsFilterOpen, blocks_in, blocks_open, counted_part, filters_open, IsTestedThrough, is_after_tick};
 ghost use Rattle.cf_holds.specs.Known.{HoldsFetched, HoldsClaims, HoldsGiven, HoldsOpens, HoldsTests, OpensAt};
 ghost use Rattle.cf_holds.specs.Kept.{AreClean, HoldsOutputs, HoldsTrials, IsNoSend};
 ghost use Rattle.cf_seek.specs.{IsNextTrial, IsTrial, IsBlockFree, IsFilterFree, Closes, IsSameElse, OpensBlock, OpensFilters, IsToAsk, IsToGet};

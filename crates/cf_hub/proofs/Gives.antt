@@ -14,7 +14,7 @@ use Rattle.cf_tasks.specs.Queue.{of, entry, IsStart}
 use Rattle.cf_tasks.proofs.Moves.{of_append}
 use Rattle.cf_outside.specs.declared.entry.EntryKind.{EntryKind}
 use Rattle.cf_outside.specs.declared.entry.EntryKind.TheVariants as kinds
-use Rattle.cf_outside.specs.Pieces.{bytes_of, joined, is_last, is_open}
+use Rattle.cf_outside.specs.Pieces.{bytes_of, bytes_in, is_last, is_open}
 use Rattle.cf_outside.specs.Ticks.{seconds_of, ticks}
 use Rattle.cf_hub.specs.Gives.{delivery_of, given_of, LogGives, piece_in, pieces_of, is_gone_of, has_gone, tick_in, ticks_of, IsFront}
 
@@ -127,7 +127,7 @@ gone-append p (x ∷ xs) ys = ap (λ b. is_gone_of p x || b) (gone-append p xs y
     either false b c = refl
 
 -- one entry gives of a peer what is received of it
-one_given : (p q : ℕ) (k : EntryKind) → 0 < p → (pieces_of p (delivery_of q k) ≡ joined (of p (entry q k ∷ [])))
+one_given : (p q : ℕ) (k : EntryKind) → 0 < p → (pieces_of p (delivery_of q k) ≡ bytes_in (of p (entry q k ∷ [])))
     × (has_gone p (delivery_of q k) ≡ not (is_open (of p (entry q k ∷ []))))
 one_given p zero (kinds.Got b) l = (grind (arith, nat_tests, common_steps), grind (arith, nat_tests, common_steps))
 one_given p zero (kinds.Tick s) l = (grind (arith, nat_tests, common_steps), grind (arith, nat_tests, common_steps))
@@ -136,18 +136,18 @@ one_given p (suc q) (kinds.Got b) l = (grind (arith, nat_tests, common_steps), g
 one_given p (suc q) (kinds.Tick s) l = (grind (arith, nat_tests, common_steps), grind (arith, nat_tests, common_steps))
 one_given p (suc q) kinds.Last l = (grind (arith, nat_tests, common_steps), grind (arith, nat_tests, common_steps))
 
-joined-append : (xs ys : List (Item EntryKind)) → joined (xs ++ ys) ≡ joined xs ++ joined ys
+joined-append : (xs ys : List (Item EntryKind)) → bytes_in (xs ++ ys) ≡ bytes_in xs ++ bytes_in ys
 joined-append [] ys = refl
-joined-append (x ∷ xs) ys = ap (λ l. bytes_of x.kind ++ l) (joined-append xs ys) ∙ sym (append_assoc (bytes_of x.kind) (joined xs) (joined ys))
+joined-append (x ∷ xs) ys = ap (λ l. bytes_of x.kind ++ l) (joined-append xs ys) ∙ sym (append_assoc (bytes_of x.kind) (bytes_in xs) (bytes_in ys))
 
 -- the pieces given of a peer are those that were received of it
-pub pieces_given : (p : ℕ) → 0 < p → (es : List (Item EntryKind)) → pieces_of p (given_of es) ≡ joined (of p es)
+pub pieces_given : (p : ℕ) → 0 < p → (es : List (Item EntryKind)) → pieces_of p (given_of es) ≡ bytes_in (of p es)
 pieces_given p l [] = refl
 pieces_given p l (e ∷ es) =
     pieces-append p (delivery_of e.from e.kind) (given_of es)
     ∙ ap (λ x. x ++ pieces_of p (given_of es)) (one_given p e.from e.kind l).0
-    ∙ ap (λ x. joined (of p (e ∷ [])) ++ x) (pieces_given p l es)
-    ∙ sym (ap joined (of_append p (e ∷ []) es) ∙ joined-append (of p (e ∷ [])) (of p es))
+    ∙ ap (λ x. bytes_in (of p (e ∷ [])) ++ x) (pieces_given p l es)
+    ∙ sym (ap bytes_in (of_append p (e ∷ []) es) ∙ joined-append (of p (e ∷ [])) (of p es))
 
 all_ticks-append : (xs ys : List (Item EntryKind)) → ticks (xs ++ ys) ≡ ticks xs ++ ticks ys
 all_ticks-append [] ys = refl

@@ -6,7 +6,7 @@ ghost use Rattle.cf_wires.specs.declared.event.Delivery.TheVariants.{Got, Gone, 
 ghost use Rattle.cf_wires.specs.{Tells, tell, told_finished, longer, was_closed, session_text};
 ghost use Rattle.cf_hub.specs.Kept.{kept_log};
 
-use cf_bytes::{NoMemory, PeerNo};
+use cf_bytes::{NoMemory, PLACES, PeerNo};
 use cf_wires::{Delivery, Event, Mark, Name, Piece, put_deliveries, put_dials};
 use std::alloc::Global;
 
@@ -15,8 +15,8 @@ use std::alloc::Global;
 pub struct HubLog {
     keeps: bool,
     log: Vec<Event>,
-    marks: [Mark; 9],
-    closed: [bool; 9],
+    marks: [Mark; PLACES],
+    closed: [bool; PLACES],
     dials: u32,
     taken: u64,
     ended: u64,
@@ -40,10 +40,10 @@ fn put(log: &mut Vec<Event>, keeps: bool, e: Event)
 }
 
 // Marks a peer, if its number is one.
-fn mark(marks: &mut [Mark; 9], p: PeerNo, m: Mark)
+fn mark(marks: &mut [Mark; PLACES], p: PeerNo, m: Mark)
     ensures { marks.new ≡ slice_set marks.old p.0 m }
 {
-    if (p.0 as usize) < 9 {
+    if (p.0 as usize) < PLACES {
         marks[p.0 as usize] = m;
     }
 }
@@ -70,9 +70,9 @@ impl HubLog {
     {
         Ok(HubLog {
             keeps: false,
-            log: Vec::with_capacity(alloc, 9)?,
-            marks: [Mark::NotYet; 9],
-            closed: [false; 9],
+            log: Vec::with_capacity(alloc, PLACES)?,
+            marks: [Mark::NotYet; PLACES],
+            closed: [false; PLACES],
             dials: 0,
             taken: 0,
             ended: 0,

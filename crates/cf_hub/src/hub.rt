@@ -25,7 +25,7 @@ use crate::joining::{Joined, Rested, each_reads, it_ticks, join_readers, join_ti
 use crate::making::{Lines, Lists, Parts, parts_in};
 use crate::taking::{are_gone, receive, take_entry};
 use crate::writers::{put_to, shut_at};
-use cf_bytes::{Failed, NoMemory, PeerNo};
+use cf_bytes::{Failed, NoMemory, PLACES, PeerNo};
 use cf_conn::Source;
 use cf_outside::{CHUNK, Dialer, EntryKind, Pulse, Reader, StopFlag, Ticker, Writer};
 use cf_tasks::{Busy, Item, Queue, Sender, Spawner, Workers};
@@ -68,7 +68,7 @@ pub struct Hub<D: Dialer, P: Pulse, R: Wait + Threads + Copy + Drop> {
     writers: Vec<Option<D::Write>>,
     queue: Queue<EntryKind>,
     // Of which peers the last entry has come; at place 0 that of the ticker.
-    gone: [bool; 9],
+    gone: [bool; PLACES],
     // How many dials found no thread, or came too late, and how many sends found no writer.
     missed: u64,
     book: HubLog,
@@ -155,8 +155,7 @@ fn hand_over<P: Pulse, R: Wait + Drop + Copy>(
 }
 
 impl<D: Dialer, P: Pulse, R: Wait + Threads + Copy + Drop> Hub<D, P, R> {
-    ghost use Rattle.cf_hub.specs.Stays.{missed_of, OnlyBegins, OnlyJoins, OnlyNotes, OnlyOpens, OnlyPasses, OnlyShuts};
-    ghost use Rattle.cf_hub.specs.Stays.{OnlyStarts, OnlyTakes, OnlyWrites, PassesOver};
+    ghost use Rattle.cf_hub.specs.Stays.{missed_of, OnlyBegins, OnlyJoins, OnlyNotes, OnlyOpens, OnlyPasses, OnlyShuts, OnlyStarts, OnlyTakes, OnlyWrites, PassesOver};
 
     /// A hub that has dialled nobody. `readers` and `tickers` are the threads that wait for its tasks.
     pub fn new(
@@ -212,7 +211,7 @@ impl<D: Dialer, P: Pulse, R: Wait + Threads + Copy + Drop> Hub<D, P, R> {
             joined: false,
             writers,
             queue,
-            gone: [false; 9],
+            gone: [false; PLACES],
             missed: 0,
             book,
         })

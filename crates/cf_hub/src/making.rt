@@ -7,10 +7,9 @@ ghost use Rattle.cf_hub.specs.Lines.{Down, Waits};
 ghost use Rattle.cf_wires.specs.{Tells as IsTold};
 
 use crate::book::HubLog;
-use cf_bytes::NoMemory;
+use cf_bytes::{MOST_PEERS, NoMemory};
 use cf_outside::{EntryKind, StopFlag};
 use cf_tasks::{Queue, Sender};
-use cf_wires::MOST_PEERS;
 use std::alloc::{AllocError, Global};
 use std::sync::Arc;
 use std::sync::atomic::AtomicBool;

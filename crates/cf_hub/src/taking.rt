@@ -11,7 +11,7 @@ ghost use Rattle.cf_hub.specs.Gives.{given_of, IsProper};
 ghost use Rattle.cf_hub.specs.Over.{AllGone, Heard, connections};
 
 use crate::book::{HubLog, filled};
-use cf_bytes::PeerNo;
+use cf_bytes::{PLACES, PeerNo};
 use cf_outside::EntryKind;
 use cf_tasks::{Item, Queue};
 use cf_wires::Delivery;
@@ -21,7 +21,7 @@ use std::sync::Wait;
 pub(crate) fn receive<R: Wait>(
     rt: &R,
     queue: &mut Queue<EntryKind>,
-    gone: &mut [bool; 9],
+    gone: &mut [bool; PLACES],
 ) -> Item<EntryKind>
     ensures ring { sends_on queue.new.line ≡ sends_on queue.old.line }
     ensures got { (view queue.new.seat).got ≡ (view queue.old.seat).got ++ entry result.from result.kind ∷ [] }
@@ -36,7 +36,7 @@ pub(crate) fn receive<R: Wait>(
 pub(crate) fn take_entry<R: Wait>(
     rt: &R,
     queue: &mut Queue<EntryKind>,
-    gone: &mut [bool; 9],
+    gone: &mut [bool; PLACES],
     book: &mut HubLog,
     bytes: Vec<u8>,
     room: Vec<u8>,
@@ -84,13 +84,13 @@ pub(crate) fn take_entry<R: Wait>(
 }
 
 // Notes a last entry.
-fn note_last(gone: &mut [bool; 9], entry: &Item<EntryKind>)
+fn note_last(gone: &mut [bool; PLACES], entry: &Item<EntryKind>)
     ensures last { is_last entry.now.kind ≡ true → gone.new ≡ slice_set gone.old entry.now.from true }
     ensures other { is_last entry.now.kind ≡ false → gone.new ≡ gone.old }
 {
     match &entry.kind {
         EntryKind::Last => {
-            if entry.from < 9 {
+            if entry.from < PLACES {
                 gone[entry.from as usize] = true;
             }
         }
@@ -110,14 +110,14 @@ fn is_connected<W>(writers: &[Option<W>], p: usize) -> bool
 }
 
 // Whether the last entry of a peer was noted.
-fn is_noted(gone: &[bool; 9], p: usize) -> bool
+fn is_noted(gone: &[bool; PLACES], p: usize) -> bool
     ensures { result ≡ slice_index_or gone.now p false }
 {
     p < gone.len() && gone[p]
 }
 
 // Whether a peer has a writer, and its last entry was not noted.
-pub(crate) fn is_left<W>(writers: &[Option<W>], gone: &[bool; 9], p: usize) -> bool
+pub(crate) fn is_left<W>(writers: &[Option<W>], gone: &[bool; PLACES], p: usize) -> bool
     ensures { result ≡ false → slice_index_or (connections writers.now) p false ≡ true
         → slice_index_or gone.now p false ≡ true }
 {
@@ -125,7 +125,7 @@ pub(crate) fn is_left<W>(writers: &[Option<W>], gone: &[bool; 9], p: usize) -> b
 }
 
 // Whether the last entry of each peer that has a writer was noted.
-pub(crate) fn are_gone<W>(writers: &[Option<W>], gone: &[bool; 9]) -> bool
+pub(crate) fn are_gone<W>(writers: &[Option<W>], gone: &[bool; PLACES]) -> bool
     ensures { result ≡ true → AllGone writers.now gone.now }
 {
     for p in 0..writers.len() {

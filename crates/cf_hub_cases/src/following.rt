@@ -2,13 +2,12 @@
 use crate::doors::count;
 use crate::link::ToldLink;
 use crate::row::{watch_in, words_at};
-use cf_bytes::{MapFiles, VecSink};
+use cf_bytes::{MOST_PEERS, MapFiles, VecSink};
 use cf_cli::run;
 use cf_edge::Edge;
 use cf_grow::Nobody;
 use cf_rows::{Host, shown};
 use cf_tasks::{InThreads, Spawner};
-use cf_wires::MOST_PEERS;
 use std::sync::Wait;
 use std::thread::Threads;
 

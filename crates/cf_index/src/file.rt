@@ -1,6 +1,7 @@
 //! Files of blocks.
 ghost use Rattle.std.specs.Prelude.{◌≡◌, ◌≤◌, ◌+◌, [], zero, suc, length, IfOk};
-ghost use Rattle.cf_chain.specs.{IsGoodChain, max_height};
+ghost use Rattle.cf_chain.specs.{IsGoodChain};
+ghost use Rattle.cf_headers.specs.Chain.{height_limit};
 ghost use Rattle.cf_walk.specs.{IsGoodFile, StopsAt, IsBadFile, IfBad, next_at, blocks_from, blocks_at, Answers, HasRecord, IsRecordsOf};
 ghost use Rattle.cf_index.specs.Progress.{Keeps, GivesNext};
 
@@ -30,7 +31,7 @@ fn take_next(alloc: Global, chain: Chain, cut: &mut Cut) -> Result<Chain, Refuse
 // The number of the record after those of these blocks, where so many stand before them.
 fn number_after(before: u32, blocks: &Blocks) -> u32
     requires few { before ≤ 1 }
-    requires low { length blocks.now ≤ max_height }
+    requires low { length blocks.now ≤ height_limit }
     ensures { result ≡ suc (before + length blocks.now) }
 {
     before + blocks.len() as u32 + 1

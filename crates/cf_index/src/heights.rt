@@ -2,7 +2,7 @@
 ghost use Rattle.std.specs.Prelude.{◌≡◌, ◌≤◌, ◌∷◌, [], length, IfOk, OnOk, OnErr, position};
 ghost use Rattle.std.specs.FinMap.{get, empty};
 ghost use Rattle.cf_bytes.specs.declared.hash.Hash32.{Hash32};
-ghost use Rattle.cf_chain.specs.{max_height};
+ghost use Rattle.cf_headers.specs.Chain.{height_limit};
 ghost use Rattle.cf_headers.specs.{same};
 ghost use Rattle.cf_index.specs.ByHash.{with_first};
 ghost use Rattle.cf_index.specs.HeightMap.{first_hash};
@@ -73,7 +73,7 @@ fn first_height(alloc: Global) -> Result<Heights, NoMemory>
 /// The heights of genesis and of the blocks above it, which have these hashes. A hash that stands several times has its
 /// lowest.
 pub(crate) fn heights_of(alloc: Global, hashes: &[Hash32]) -> Result<Heights, NoMemory>
-    requires { length hashes.now ≤ max_height }
+    requires { length hashes.now ≤ height_limit }
     ensures { IfOk result (λ heights. (hash : Hash32)
         → get heights hash ≡ position (λ h. same h.0 hash.0) (first_hash ∷ hashes.now)) }
 {

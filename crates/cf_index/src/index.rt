@@ -4,7 +4,8 @@ ghost use Rattle.std.specs.FinMap.{get, empty};
 ghost use Rattle.std.specs.Thread.{IsSync};
 ghost use Rattle.cf_bytes.specs.declared.hash.Hash32.{Hash32};
 ghost use Rattle.cf_block.specs.{AreTxids, block_hash_of, IsBlock};
-ghost use Rattle.cf_chain.specs.{filter_at, filters_of, after_block, coins_after, IsGoodChain, headers_of, max_height, all_blocks, block_height};
+ghost use Rattle.cf_chain.specs.{filter_at, filters_of, after_block, coins_after, IsGoodChain, headers_of, all_blocks, block_height};
+ghost use Rattle.cf_headers.specs.Chain.{height_limit};
 ghost use Rattle.cf_coins.specs.{spend_txs};
 ghost use Rattle.cf_filter.specs.{filter_hash_of};
 ghost use Rattle.cf_headers.specs.{tip_hash, same};
@@ -50,7 +51,7 @@ fn filters_and_heights<R: Threads + Sync>(
             ensures { IfOk result (λ list. map shown list ≡ filters_of blocks.entry.now) }
         { all_filters(rt, alloc, blocks, hashes, spent) },
         move || -> Result<Heights, NoMemory>
-            requires { length hashes.now ≤ max_height }
+            requires { length hashes.now ≤ height_limit }
             ensures { IfOk result (λ heights. (hash : Hash32)
                 → get heights hash ≡ position (λ h. same h.0 hash.0) (first_hash ∷ hashes.entry.now)) }
         {
@@ -131,7 +132,7 @@ fn put_all(
     filter: BlockFilter,
     hash: Hash32,
 ) -> Result<(), NoMemory>
-    requires { length blocks.old < max_height }
+    requires { length blocks.old < height_limit }
     ensures blocks { OnOk result (blocks.new ≡ blocks.old ++ block ∷ []) }
     ensures filters { OnOk result (filters.new ≡ filters.old ++ filter ∷ []) }
     ensures heights { OnOk result (heights.new ≡ with_first heights.old hash (length blocks.old + 1)) }

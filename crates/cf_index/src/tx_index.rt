@@ -5,7 +5,7 @@ ghost use Rattle.std.specs.List.{AllByRecursion};
 ghost use Rattle.std.specs.Option.{option_or};
 ghost use Rattle.cf_block.specs.{bytes_of};
 ghost use Rattle.cf_bytes.specs.declared.hash.Hash32.{Hash32};
-ghost use Rattle.cf_chain.specs.{max_height};
+ghost use Rattle.cf_headers.specs.Chain.{height_limit};
 ghost use Rattle.cf_index.specs.ByHash.{with_first};
 ghost use Rattle.cf_index.specs.Finding.{found_from, place_at, AreFirstPlaces, AreTaken};
 
@@ -92,7 +92,7 @@ impl TxIndex {
 
 // The index of the transactions with these hashes, those of the block at height 1 first.
 fn index_of(alloc: Global, blocks: &[TxIds]) -> Result<TxIndex, NoMemory>
-    requires low { length blocks.now ≤ max_height }
+    requires low { length blocks.now ≤ height_limit }
     requires few { AllByRecursion (λ ids. length ids < 2 ^ 32) blocks.now }
     ensures { IfOk result (λ index. (txid : Hash32) → get index txid ≡ found_from 1 txid.0 (map bytes_of blocks.now)) }
 {

@@ -2,6 +2,7 @@
 use Rattle.std.specs.Prelude.{ℕ, ◌+◌, ◌==◌, nat_le, Bool, true, false, if◌then◌else◌, List, [], ◌∷◌, ◌++◌, length, codes, Option, Some, None, Result, Ok, Err}
 use Rattle.std.specs.List.{before_first, after_first}
 use Rattle.std.specs.Str.{bytes_eq}
+use Rattle.cf_bytes.specs.Peers.{most_peers}
 use Rattle.cf_bytes.specs.Cut.{◌>>=◌}
 use Rattle.cf_bytes.specs.declared.peer.PeerNo.{PeerNo}
 use Rattle.cf_wires.specs.Wires.{Script}
@@ -14,10 +15,6 @@ use Rattle.cf_input.specs.Number.{is_number, number_within}
 use Rattle.cf_input.specs.declared.session.SessionCause.{SessionCause}
 use Rattle.cf_input.specs.declared.session.SessionCause.TheVariants.{NoDial, ManyDials, Late, NoPeer, BadLine}
 use Rattle.cf_input.specs.declared.session.SessionFault.{SessionFault}
-
--- how many peers a session may have
-abbrev pub max_dials : ℕ
-max_dials = 8
 
 -- the greatest number of seconds in a tick
 abbrev pub most_seconds : ℕ
@@ -96,7 +93,7 @@ is_none (x ∷ xs) = false
 abbrev pub with_line_by : Script → List ℕ → Option Dial → Result Script SessionCause
 with_line_by s line (Some d) =
     if is_none s.deliveries then
-    (if nat_le max_dials (length s.dials) then Err ManyDials else Ok (record s { dials = s.dials ++ d ∷ [] }))
+    (if nat_le most_peers (length s.dials) then Err ManyDials else Ok (record s { dials = s.dials ++ d ∷ [] }))
     else Err Late
 with_line_by s line None =
     if is_none s.dials then Err NoDial

@@ -5,7 +5,8 @@ use Rattle.cf_wires.specs.Log.{is_real}
 use Rattle.cf_wires.specs.Wires.{Script}
 use Rattle.cf_wires.specs.declared.event.Dial.{Dial}
 use Rattle.cf_input.specs.declared.session.Session.{Session}
-use Rattle.cf_input.specs.SessionFile.{lines_in, max_dials}
+use Rattle.cf_bytes.specs.Peers.{most_peers}
+use Rattle.cf_input.specs.SessionFile.{lines_in}
 
 -- what wires in memory are made to give by a session: its dials and its deliveries
 abbrev pub script_in : Session → Script
@@ -18,6 +19,6 @@ AreNamed s = map string_bytes s.names.items ≡ map (λ (d : Dial). d.name) s.di
 -- a line was added: one more stands there, and the session is still one whose dials are few, whose names are those of the dials, and whose deliveries are real
 pub record AddsLine (before after : Session) : Type 0 where
   pub more : lines_in (script_in after) ≡ lines_in (script_in before) + 1
-  pub few : length after.dials.items ≤ max_dials
+  pub few : length after.dials.items ≤ most_peers
   pub named : AreNamed before → AreNamed after
   pub real : list_all is_real before.deliveries.items ≡ true → list_all is_real after.deliveries.items ≡ true

@@ -10,7 +10,7 @@ use Rattle.cf_headers.specs.Chain.{height_limit}
 use Rattle.cf_input.specs.Lines.{bytes_of_hex}
 use Rattle.cf_input.specs.Number.{number_at_most, number_within}
 use Rattle.cf_input.specs.Name.{is_name}
-use Rattle.cf_input.specs.SessionFile.{max_dials}
+use Rattle.cf_bytes.specs.Peers.{most_peers}
 use Rattle.cf_input.specs.declared.words.Command.{Command}
 use Rattle.cf_input.specs.declared.words.Command.TheVariants.{Address, Check, Demo, Filter, Follow, Make, Prove, Replay, Scan, Serve, Sync}
 
@@ -206,7 +206,7 @@ replay_of met =
 
 -- the names of 1 to 8 peers
 abbrev pub are_names : List Text → Bool
-are_names texts = list_all is_name texts && (nat_lt 0 (length texts) && nat_le (length texts) max_dials)
+are_names texts = list_all is_name texts && (nat_lt 0 (length texts) && nat_le (length texts) most_peers)
 
 -- the command over peers: `follow` where the client goes on, else `sync`
 abbrev pub over_peers : Bool → ℕ → ℕ → Option Text → Text → List Text → Command
@@ -230,8 +230,8 @@ follow_of met = over_peers_of true met
 
 -- a run has at most 8 peers
 abbrev pub HasFewPeers : Command → Type 0
-HasFewPeers (Sync _ _ _ _ peers) = length peers ≤ max_dials
-HasFewPeers (Follow _ _ _ _ peers) = length peers ≤ max_dials
+HasFewPeers (Sync _ _ _ _ peers) = length peers ≤ most_peers
+HasFewPeers (Follow _ _ _ _ peers) = length peers ≤ most_peers
 HasFewPeers _ = Unit {0}
 
 -- the command `scan`, by what was found for its arguments

@@ -1,62 +1,75 @@
 //! What is wrong with words that ask for nothing, told to the user.
 use crate::words::{
+    MOST_CONNECTIONS, MOST_HEIGHT, MOST_MADE, MOST_PLAYED, MOST_SEED, MOST_TURNS, MOST_WORKERS,
     cli_command, connections_of, is_met, seed_of, text_of, texts_of, turns_of, workers_of,
 };
-use cf_bytes::NoMemory;
+use cf_bytes::{MOST_PEERS, NoMemory};
 use clap::ArgMatches;
 use std::alloc::Global;
 
+// A number that is out of its range.
+fn ranged(alloc: Global, what: &str, least: u32, most: u32) -> Result<String, NoMemory> {
+    Ok(format!(in alloc; "{what} is a number from {least} to {most}")?)
+}
+
+// A name of an address or a peer that is too long, or none.
+fn unnamed(alloc: Global, what: &str) -> Result<String, NoMemory> {
+    Ok(format!(in alloc; "{what} has 1 to 255 characters, without spaces")?)
+}
+
 // What is wrong with the peers of `sync` or `follow`.
-fn peers_mistake(matches: &ArgMatches) -> &'static str {
+fn peers_mistake(alloc: Global, matches: &ArgMatches) -> Result<String, NoMemory> {
     match texts_of(matches, "peer") {
-        Some(peers) if peers.len() > 8 => "there are more than 8 peers",
-        _ => "the name of a peer has 1 to 255 characters, without spaces",
+        Some(peers) if peers.len() > MOST_PEERS => {
+            Ok(format!(in alloc; "there are more than {MOST_PEERS} peers")?)
+        }
+        _ => unnamed(alloc, "the name of a peer"),
     }
 }
 
 // What is out of its range in the words of `sync` or `follow`.
-fn run_mistake(matches: &ArgMatches) -> &'static str {
+fn run_mistake(alloc: Global, matches: &ArgMatches) -> Result<String, NoMemory> {
     if turns_of(text_of(matches, "turns")).is_none() {
-        "N of --turns is a number from 1 to 10000000"
+        ranged(alloc, "N of --turns", 1, MOST_TURNS)
     } else if workers_of(text_of(matches, "workers")).is_none() {
-        "N of --workers is a number from 1 to 64"
+        ranged(alloc, "N of --workers", 1, MOST_WORKERS)
     } else {
-        peers_mistake(matches)
+        peers_mistake(alloc, matches)
     }
 }
 
 // What is out of its range in the words of `serve`.
-fn serve_mistake(matches: &ArgMatches) -> &'static str {
+fn serve_mistake(alloc: Global, matches: &ArgMatches) -> Result<String, NoMemory> {
     match connections_of(text_of(matches, "connections")) {
-        None => "N of --connections is a number from 1 to 1000000",
-        Some(_) => "ADDRESS has 1 to 255 characters, without spaces",
+        None => ranged(alloc, "N of --connections", 1, MOST_CONNECTIONS),
+        Some(_) => unnamed(alloc, "ADDRESS"),
     }
 }
 
-// What is out of its range in the words of `make` or `demo`, whose blocks are in this one.
-fn chain_mistake(matches: &ArgMatches, blocks: &'static str) -> &'static str {
+// What is out of its range in the words of `make` or `demo`, which takes at most so many blocks.
+fn chain_mistake(alloc: Global, matches: &ArgMatches, most: u32) -> Result<String, NoMemory> {
     match text_of(matches, "seed").and_then(seed_of) {
-        None => "SEED is a number from 0 to 4294967295",
-        Some(_) => blocks,
+        None => ranged(alloc, "SEED", 0, MOST_SEED),
+        Some(_) => ranged(alloc, "BLOCKS", 1, most),
     }
 }
 
 // What is out of its range in words that clap takes.
-fn range_mistake(matches: &ArgMatches) -> &'static str {
+fn range_mistake(alloc: Global, matches: &ArgMatches) -> Result<String, NoMemory> {
     if is_met(matches, "filter") {
-        "HEIGHT is a number from 0 to 4294967295"
+        ranged(alloc, "HEIGHT", 0, MOST_HEIGHT)
     } else if is_met(matches, "prove") {
-        "TXID is a transaction's hash, of 64 hexadecimal digits"
+        Ok(format!(in alloc; "TXID is a transaction's hash, of 64 hexadecimal digits")?)
     } else if is_met(matches, "serve") {
-        serve_mistake(matches)
+        serve_mistake(alloc, matches)
     } else if is_met(matches, "sync") || is_met(matches, "follow") {
-        run_mistake(matches)
+        run_mistake(alloc, matches)
     } else if is_met(matches, "make") {
-        chain_mistake(matches, "BLOCKS is a number from 1 to 500000")
+        chain_mistake(alloc, matches, MOST_MADE)
     } else if is_met(matches, "demo") {
-        chain_mistake(matches, "BLOCKS is a number from 1 to 499998")
+        chain_mistake(alloc, matches, MOST_PLAYED)
     } else {
-        "there is no command"
+        Ok(format!(in alloc; "there is no command")?)
     }
 }
 
@@ -65,7 +78,10 @@ fn range_mistake(matches: &ArgMatches) -> &'static str {
 pub fn mistake_text(alloc: Global, words: &[String]) -> Result<String, NoMemory> {
     let command = cli_command(alloc)?;
     match command.try_get_matches_from(words) {
-        Ok(matches) => Ok(format!(in alloc; "error: {}\n", range_mistake(&matches))?),
+        Ok(matches) => {
+            let mistake = range_mistake(alloc, &matches)?;
+            Ok(format!(in alloc; "error: {mistake}\n")?)
+        }
         Err(e) => Ok(format!(in alloc; "{e}")?),
     }
 }

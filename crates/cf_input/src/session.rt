@@ -4,14 +4,15 @@ ghost use Rattle.std.specs.List.{list_all};
 ghost use Rattle.cf_wires.specs.{is_real};
 ghost use Rattle.cf_input.specs.Lines.{GivesRead, GivesAfter};
 ghost use Rattle.cf_input.specs.Name.{is_name};
-ghost use Rattle.cf_input.specs.SessionFile.{max_dials, answer_of, dial_of, peer_of, got_of, gone_of, tick_of, delivery_of, with_line, line_after, lines_in, session_of};
+ghost use Rattle.cf_bytes.specs.{most_peers};
+ghost use Rattle.cf_input.specs.SessionFile.{answer_of, dial_of, peer_of, got_of, gone_of, tick_of, delivery_of, with_line, line_after, lines_in, session_of};
 ghost use Rattle.cf_input.specs.Sessions.{script_in, AddsLine, AreNamed};
 
 use crate::lines::{cut_at, read_hex};
 use crate::number::{is_number, number_within};
 use crate::text::is_name;
-use cf_bytes::{NoMemory, PeerNo, Refused};
-use cf_wires::{Delivery, Dial, MOST_PEERS, Name, Piece};
+use cf_bytes::{MOST_PEERS, NoMemory, PeerNo, Refused};
+use cf_wires::{Delivery, Dial, Name, Piece};
 use std::alloc::Global;
 use thiserror::Error;
 
@@ -175,7 +176,7 @@ fn add_dial(
 
 // One line more: a dial, or a delivery.
 fn take_line(alloc: Global, session: &mut Session, line: &[u8]) -> Result<(), Refused<SessionCause>>
-    requires { length session.old.dials.items ≤ max_dials }
+    requires { length session.old.dials.items ≤ most_peers }
     ensures exact { GivesAfter (with_line (script_in session.old) line.now) result (script_in session.new) }
     ensures adds { OnOk result (AddsLine session.old session.new) }
 {
@@ -200,7 +201,7 @@ fn take_line(alloc: Global, session: &mut Session, line: &[u8]) -> Result<(), Re
 
 // One line more, with its number.
 fn add_line(alloc: Global, session: &mut Session, line: &[u8]) -> Result<(), Refused<SessionFault>>
-    requires few { length session.old.dials.items ≤ max_dials }
+    requires few { length session.old.dials.items ≤ most_peers }
     requires fits { lines_in (script_in session.old) + 1 < 2 ^ 32 }
     ensures exact { GivesAfter (line_after (script_in session.old) line.now) result (script_in session.new) }
     ensures adds { OnOk result (AddsLine session.old session.new) }
@@ -222,7 +223,7 @@ pub fn read_session(alloc: Global, bytes: &[u8]) -> Result<Session, Refused<Sess
     requires { length bytes.now < 2 ^ 32 }
     ensures exact { GivesRead script_in (session_of bytes.now) result }
     ensures named { IfOk result AreNamed }
-    ensures few { IfOk result (λ s. length s.dials.items ≤ max_dials) }
+    ensures few { IfOk result (λ s. length s.dials.items ≤ most_peers) }
     ensures real { IfOk result (λ s. list_all is_real s.deliveries.items ≡ true) }
 {
     let mut session = Session {

@@ -4,8 +4,7 @@ ghost use Rattle.std.specs.List.{list_all};
 ghost use Rattle.cf_input.specs.Name.{is_printable, is_name};
 ghost use Rattle.cf_input.specs.Words.{are_names};
 
-use cf_bytes::NoMemory;
-use cf_wires::MOST_PEERS;
+use cf_bytes::{MOST_PEERS, NoMemory};
 use std::alloc::Global;
 use std::marker::Model;
 

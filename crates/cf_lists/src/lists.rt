@@ -6,8 +6,8 @@ use crate::kept::KeptChain;
 use crate::slot::Slot;
 use crate::table::renew;
 use cf_block::Header;
-use cf_bytes::{Hash32, NoMemory, PeerNo};
-use cf_headers::{Change, HeaderStore, PLACES};
+use cf_bytes::{Hash32, NoMemory, PLACES, PeerNo};
+use cf_headers::{Change, HeaderStore};
 use std::alloc::Global;
 
 /// Each peer's chain as a list of its own, and the common heights of each two. To look a hash up goes along the chain;

@@ -5,7 +5,7 @@ ghost use Rattle.cf_lists.specs.Lists.{IsCommonUpTo, AreCommons, AreCommonsBut, 
 
 use crate::kept::KeptChain;
 use crate::slot::Slot;
-use cf_headers::PLACES;
+use cf_bytes::PLACES;
 
 // The common height of two chains, where it is known up to height k.
 #[tactic(auto, using(cf_headers::proofs::Commons::common_symm))]

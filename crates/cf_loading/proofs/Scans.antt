@@ -2,7 +2,7 @@
 use Rattle.std.proofs.Common.{◌≡◌, ℕ, suc, ◌+◌, ◌-◌, ◌<◌, List, [], ◌∷◌, ◌++◌, length, sym, ◌∙◌, ap, arith, length-append}
 use Rattle.std.specs.Prelude.{fold}
 use Rattle.cf_block.specs.declared.tx.Block.{Block}
-use Rattle.cf_chain.specs.Good.{headers_of, max_height}
+use Rattle.cf_chain.specs.Good.{headers_of}
 use Rattle.cf_headers.specs.Chain.{tip_hash}
 use Rattle.cf_walk.specs.declared.walk.Walk.{Walk}
 use Rattle.cf_walk.specs.Judging.{StandsOn}

@@ -15,7 +15,7 @@ use Rattle.cf_block.specs.Header.{IsHash, IsHeader, header_spelling}
 use Rattle.cf_block.specs.Merkle.{merkle_root_of, root_within, is_mutated, is_mutated_within, txids, None64}
 use Rattle.cf_block.specs.Tx.{IsTx, IsBlock, tx_spelling, block_spelling}
 use Rattle.cf_block.specs.Commitment.{IsCommitted}
-use Rattle.cf_chain.specs.Good.{max_height}
+use Rattle.cf_headers.specs.Chain.{height_limit}
 use Rattle.cf_make.specs.declared.tipped.Tip.{Tip}
 use Rattle.cf_make.specs.Mined.{with_nonce}
 use Rattle.cf_make.specs.Made.{coinbase_of, second_of, seconds_of, made_txs, made_header, max_tries}
@@ -139,7 +139,7 @@ txs_fit P apart seed height o coins known =
     known
 
 -- the header of a made block
-pub header_fits : (seed height nonce : ℕ) (t : Tip) → height ≤ max_height → nonce < max_tries → IsHash t.hash → length (merkle_root_of (txids (map tx_spelling (made_txs seed height t.coin)))) ≡ 32
+pub header_fits : (seed height nonce : ℕ) (t : Tip) → height ≤ height_limit → nonce < max_tries → IsHash t.hash → length (merkle_root_of (txids (map tx_spelling (made_txs seed height t.coin)))) ≡ 32
     → IsHeader (with_nonce (made_header seed height t) nonce)
 unfolding made_header
 header_fits seed height nonce t low within hash root = record {

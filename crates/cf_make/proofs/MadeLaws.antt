@@ -19,10 +19,10 @@ use Rattle.cf_block.specs.Stored.{IsStored}
 use Rattle.cf_block.specs.Tx.{IsBlock, tx_spelling, txid_of}
 use Rattle.cf_block.specs.Commitment.{spelled_txs}
 use Rattle.cf_headers.specs.Rules.{same, is_worked, is_timely}
-use Rattle.cf_headers.specs.Chain.{Chain, tip_hash, times_of, past_of, fits, IsValidChain}
+use Rattle.cf_headers.specs.Chain.{Chain, tip_hash, times_of, past_of, fits, IsValidChain, height_limit}
 use Rattle.cf_headers.proofs.Rising.{AreBelow, below_more, rising_timely}
 use Rattle.cf_chain.specs.Coins.{CoinMap, after_tx, after_block}
-use Rattle.cf_chain.specs.Good.{max_height, AreGoodTxs, NoCoinbases, HasOneCoinbase, IsGoodBlock, AreGoodBlocks, headers_of, IsGoodChain}
+use Rattle.cf_chain.specs.Good.{AreGoodTxs, NoCoinbases, HasOneCoinbase, IsGoodBlock, AreGoodBlocks, headers_of, IsGoodChain}
 use Rattle.cf_make.specs.declared.tipped.Tip.{Tip}
 use Rattle.cf_make.specs.Mined.{with_nonce, is_met, NoneMeets, IsMined}
 use Rattle.cf_make.specs.Made.{coinbase_of, second_of, made_txs, made_header, max_tries, first_coin, tip_of, genesis_tip, tip_after, IsMadeBlock, AreMade, IsExtension, StopsAt, seed_limit, IsMadeBySome, AreMadeInTurn, IsMadeChain}
@@ -142,7 +142,7 @@ hash_fits : (h : Header) → length (block_hash_of h) ≡ 32
 unfolding block_hash_of
 hash_fits h = length-hash_of (header_spelling h)
 
-stepped_as : (P : List ℕ → Type 0) → Apart P → (coins : CoinMap) (seed height nonce : ℕ) (t : Tip) → height ≤ max_height → nonce < max_tries → State P coins height t
+stepped_as : (P : List ℕ → Type 0) → Apart P → (coins : CoinMap) (seed height nonce : ℕ) (t : Tip) → height ≤ height_limit → nonce < max_tries → State P coins height t
     → AllKnown P (made_txs seed height t.coin) → Stepped P coins height (record { header = with_nonce (made_header seed height t) nonce; txs = made_txs seed height t.coin })
 stepped_as P apart coins seed height nonce t low within state known =
     let h : Header = with_nonce (made_header seed height t) nonce in
@@ -162,7 +162,7 @@ stepped_as P apart coins seed height nonce t low within state known =
 remade : (b : Block) (h : Header) (ts : List Tx) → b.header ≡ h → b.txs ≡ ts → record { header = h; txs = ts } ≡ b
 remade b h ts e f = λ i. record { header = sym e i; txs = sym f i }
 
-stepped : (P : List ℕ → Type 0) → Apart P → (coins : CoinMap) (seed height : ℕ) (t : Tip) (b : Block) → height ≤ max_height → State P coins height t → IsMadeBlock seed height t b → AllKnown P b.txs → Stepped P coins height b
+stepped : (P : List ℕ → Type 0) → Apart P → (coins : CoinMap) (seed height : ℕ) (t : Tip) (b : Block) → height ≤ height_limit → State P coins height t → IsMadeBlock seed height t b → AllKnown P b.txs → Stepped P coins height b
 stepped P apart coins seed height t b low state made known =
     subst (Stepped P coins height) (remade b (with_nonce (made_header seed height t) b.header.nonce) (made_txs seed height t.coin) made.header.same made.txs)
     (stepped_as P apart coins seed height b.header.nonce t low made.header.within state (subst (AllKnown P) made.txs known))
@@ -185,13 +185,13 @@ tip_fits b = record { hash = hash_fits b.header; coin = first_coin_fits b.txs }
 genesis_tip_fits : IsTip genesis_tip
 genesis_tip_fits = record { hash = hash_fits genesis_header; coin = λ c e. cc }
 
-block_spelled : (seed height nonce : ℕ) (t : Tip) → height ≤ max_height → nonce < max_tries → IsTip t
+block_spelled : (seed height nonce : ℕ) (t : Tip) → height ≤ height_limit → nonce < max_tries → IsTip t
     → IsBlock (record { header = with_nonce (made_header seed height t) nonce; txs = made_txs seed height t.coin })
 block_spelled seed height nonce t low within tip =
     let ts : AreSpelled (made_txs seed height t.coin) = txs_spelled seed height t.coin tip.coin in
     block_fits (with_nonce (made_header seed height t) nonce) (made_txs seed height t.coin) (header_fits seed height nonce t low within tip.hash ts.root) ts
 
-made_spelled : (seed height : ℕ) (t : Tip) (b : Block) → height ≤ max_height → IsTip t → IsMadeBlock seed height t b → IsBlock b
+made_spelled : (seed height : ℕ) (t : Tip) (b : Block) → height ≤ height_limit → IsTip t → IsMadeBlock seed height t b → IsBlock b
 made_spelled seed height t b low tip made =
     subst IsBlock (remade b (with_nonce (made_header seed height t) b.header.nonce) (made_txs seed height t.coin) made.header.same made.txs)
     (block_spelled seed height b.header.nonce t low made.header.within tip)
@@ -200,7 +200,7 @@ begins_made : (seed height : ℕ) (o : Option OutPoint) → BeginsWithCoinbase (
 unfolding coinbase_of
 begins_made seed height o = refl
 
-all_made_stored : (witness : Bool) (height : ℕ) (t : Tip) (bs : List Block) → height + length bs ≤ suc max_height → IsTip t → AreMadeInTurn height t bs
+all_made_stored : (witness : Bool) (height : ℕ) (t : Tip) (bs : List Block) → height + length bs ≤ suc height_limit → IsTip t → AreMadeInTurn height t bs
     → AllByRecursion (λ b. IsStored (text_of witness b) b) bs
 all_made_stored witness height t [] low tip made = tt
 all_made_stored witness height t (b ∷ bs) low tip made =
@@ -213,7 +213,7 @@ abbrev BlocksKnown : (List ℕ → Type 0) → List Block → Type 0
 BlocksKnown P [] = Unit {0}
 BlocksKnown P (b ∷ bs) = AllKnown P b.txs × BlocksKnown P bs
 
-all_good : (P : List ℕ → Type 0) → Apart P → (coins : CoinMap) (height : ℕ) (t : Tip) (bs : List Block) → height + length bs ≤ suc max_height → State P coins height t → AreMadeInTurn height t bs → BlocksKnown P bs → AreGoodBlocks coins bs
+all_good : (P : List ℕ → Type 0) → Apart P → (coins : CoinMap) (height : ℕ) (t : Tip) (bs : List Block) → height + length bs ≤ suc height_limit → State P coins height t → AreMadeInTurn height t bs → BlocksKnown P bs → AreGoodBlocks coins bs
 all_good P apart coins height t [] low state made known = tt
 all_good P apart coins height t (b ∷ bs) low state made known =
     let one : IsMadeBySome height t b = made.0 in
@@ -282,7 +282,7 @@ genesis_time : genesis_header.time < 1296688602 + 600 * 1
 unfolding genesis_header
 genesis_time = omega arith
 
-pub made_is_good : (blocks : List Block) → IsMadeChain blocks → length blocks ≤ max_height → NoClash (flat_map spelled_txs blocks) → IsGoodChain blocks
+pub made_is_good : (blocks : List Block) → IsMadeChain blocks → length blocks ≤ height_limit → NoClash (flat_map spelled_txs blocks) → IsGoodChain blocks
 made_is_good blocks made low apart =
     let P : List ℕ → Type 0 = Among (flat_map spelled_txs blocks) in
     let state : State P empty 1 genesis_tip = record { lower = λ p h. absurd (nothing_stands p h); tip = tt; hash = hash_fits genesis_header } in
@@ -317,10 +317,10 @@ extended base whole k seed n small made e =
     subst (λ (h : ℕ). AreMadeInTurn h (tip_after genesis_tip low) e.more) (let s : suc (length low) ≡ 1 + length low = omega arith in s) (by_some seed (suc (length low)) (tip_after genesis_tip low) e.more small e.made) in
     subst IsMadeChain (sym e.joined) (in_turn 1 genesis_tip low e.more (lower_part 1 k genesis_tip base made) above)
 
-pub made_stored : (witness : Bool) (blocks : List Block) → IsMadeChain blocks → length blocks ≤ max_height → AllByRecursion (λ b. IsStored (text_of witness b) b) blocks
+pub made_stored : (witness : Bool) (blocks : List Block) → IsMadeChain blocks → length blocks ≤ height_limit → AllByRecursion (λ b. IsStored (text_of witness b) b) blocks
 made_stored witness blocks made low = all_made_stored witness 1 genesis_tip blocks (omega (arith, low)) genesis_tip_fits made
 
-pub chain_is_good : (seed n : ℕ) (whole : List Block) → seed < seed_limit → n ≤ max_height → IsExtension [] seed n whole → NoClash (flat_map spelled_txs whole) → IsGoodChain whole
+pub chain_is_good : (seed n : ℕ) (whole : List Block) → seed < seed_limit → n ≤ height_limit → IsExtension [] seed n whole → NoClash (flat_map spelled_txs whole) → IsGoodChain whole
 chain_is_good seed n whole small low e apart =
     let made : IsMadeChain whole = subst IsMadeChain (sym e.joined) (by_some seed 1 genesis_tip e.more small e.made) in
     let len : length whole ≡ n = ap (λ (l : List Block). length l) e.joined ∙ e.count in

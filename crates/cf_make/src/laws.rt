@@ -3,7 +3,8 @@ ghost use Rattle.std.specs.Prelude.{◌≡◌, ◌≤◌, ◌<◌, ◌+◌, ℕ,
 ghost use Rattle.std.specs.List.{flat_map, AllByRecursion};
 ghost use Rattle.cf_block.specs.declared.tx.Block.{Block};
 ghost use Rattle.cf_block.specs.{spelled_txs, NoClash, IsStored, block_spelling};
-ghost use Rattle.cf_chain.specs.{max_height, IsGoodChain};
+ghost use Rattle.cf_chain.specs.{IsGoodChain};
+ghost use Rattle.cf_headers.specs.Chain.{height_limit};
 ghost use Rattle.cf_make.specs.Made.{seed_limit, IsExtension, StopsAt, IsMadeChain};
 ghost use Rattle.cf_make.specs.Records.{records_of, text_of, made_records_of};
 
@@ -15,9 +16,9 @@ pub fn laws_of_made_chains()
         → StopsAt base seed n height → ⊥ }
     ensures extended { (base whole : List Block) (k seed n : ℕ) → seed < seed_limit → IsMadeChain base
         → IsExtension (take k base) seed n whole → IsMadeChain whole }
-    ensures chain { (seed n : ℕ) (whole : List Block) → seed < seed_limit → n ≤ max_height → IsExtension [] seed n whole
+    ensures chain { (seed n : ℕ) (whole : List Block) → seed < seed_limit → n ≤ height_limit → IsExtension [] seed n whole
         → NoClash (flat_map spelled_txs whole) → IsGoodChain whole }
-    ensures good { (blocks : List Block) → IsMadeChain blocks → length blocks ≤ max_height
+    ensures good { (blocks : List Block) → IsMadeChain blocks → length blocks ≤ height_limit
         → NoClash (flat_map spelled_txs blocks) → IsGoodChain blocks }
 {}
 
@@ -27,7 +28,7 @@ pub fn laws_of_made_chains()
 pub fn laws_of_made_records()
     ensures stored { (witness : Bool) (blocks : List Block) → IsGoodChain blocks
         → AllByRecursion (λ b. IsStored (text_of witness b) b) blocks }
-    ensures made { (witness : Bool) (blocks : List Block) → IsMadeChain blocks → length blocks ≤ max_height
+    ensures made { (witness : Bool) (blocks : List Block) → IsMadeChain blocks → length blocks ≤ height_limit
         → AllByRecursion (λ b. IsStored (text_of witness b) b) blocks }
     ensures short { (witness : Bool) (blocks : List Block)
         → AllByRecursion (λ b. length (text_of witness b) ≤ length (block_spelling b) + 36) blocks }

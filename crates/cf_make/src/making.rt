@@ -1,6 +1,6 @@
 //! The making of chains.
 ghost use Rattle.std.specs.Prelude.{◌≡◌, ◌≤◌, ◌<◌, ◌+◌, [], length, take};
-ghost use Rattle.cf_chain.specs.{max_height};
+ghost use Rattle.cf_headers.specs.Chain.{height_limit};
 ghost use Rattle.cf_make.specs.Made.{seed_limit, tip_of, genesis_tip, tip_after, first_coin, Extends};
 
 use crate::copying::copy_blocks;
@@ -16,7 +16,7 @@ pub type Chain = Listed<Block>;
 /// nonces from 0 to 65,535 meets the target. Seeds are below 2 ^ 33, and there are at most 500,000 blocks.
 pub fn chain(alloc: Global, seed: u64, blocks: u32) -> Result<Chain, Refused<AtHeight>>
     requires seeds { seed < seed_limit }
-    requires heights { blocks ≤ max_height }
+    requires heights { blocks ≤ height_limit }
     ensures { Extends [] seed blocks result }
 {
     make_on(alloc, Listed::new(alloc), seed, blocks)
@@ -33,7 +33,7 @@ pub fn extend(
 ) -> Result<Chain, Refused<AtHeight>>
     requires seeds { seed < seed_limit }
     requires stands { height ≤ length chain.now }
-    requires heights { height + blocks ≤ max_height }
+    requires heights { height + blocks ≤ height_limit }
     ensures { Extends (take height chain.now) seed blocks result }
 {
     let base = copy_blocks(alloc, &chain.as_slice()[..height as usize])?;
@@ -42,7 +42,7 @@ pub fn extend(
 
 fn make_on(alloc: Global, base: Chain, seed: u64, blocks: u32) -> Result<Chain, Refused<AtHeight>>
     requires seeds { seed < seed_limit }
-    requires heights { length base + blocks ≤ max_height }
+    requires heights { length base + blocks ≤ height_limit }
     ensures { Extends base seed blocks result }
 {
     let mut tip = find_tip(base.as_slice());

@@ -1,6 +1,6 @@
 //! The transactions of made chains.
 ghost use Rattle.std.specs.Prelude.{◌≡◌, ◌≤◌, ◌<◌, ◌+◌, ◌^◌, ◌∷◌, [], length, IfOk};
-ghost use Rattle.cf_chain.specs.{max_height};
+ghost use Rattle.cf_headers.specs.Chain.{height_limit};
 ghost use Rattle.cf_make.specs.Made.{seed_limit, mark_of, coinbase_of, second_of, seconds_of, made_txs};
 
 use crate::paying::pay;
@@ -37,7 +37,7 @@ fn one_input(alloc: Global, prev: OutPoint, script: Script) -> Result<TxIns, NoM
 #[tactic(auto, unfolding(crate::specs::Made::coinbase_of))]
 fn coinbase(alloc: Global, seed: u64, height: u32) -> Result<Tx, NoMemory>
     requires seeds { seed < seed_limit }
-    requires heights { height ≤ max_height }
+    requires heights { height ≤ height_limit }
     ensures { IfOk result (λ t. t ≡ coinbase_of seed height) }
 {
     let nothing = OutPoint {
@@ -84,7 +84,7 @@ pub(crate) fn make_txs(
     coin: Option<OutPoint>,
 ) -> Result<Txs, NoMemory>
     requires seeds { seed < seed_limit }
-    requires heights { height ≤ max_height }
+    requires heights { height ≤ height_limit }
     ensures { IfOk result (λ ts. ts ≡ made_txs seed height coin) }
 {
     let turn = seed + height as u64;

@@ -1,6 +1,6 @@
 //! The records of a made chain, made a block at a time.
 ghost use Rattle.std.specs.Prelude.{◌≡◌, ◌≤◌, ◌<◌, ◌++◌, IfOk, IfErr, OnOk};
-ghost use Rattle.cf_chain.specs.{max_height};
+ghost use Rattle.cf_headers.specs.Chain.{height_limit};
 ghost use Rattle.cf_make.specs.Made.{seed_limit, genesis_tip};
 ghost use Rattle.cf_make.specs.Records.{made_record};
 ghost use Rattle.cf_make.specs.Streamed.{AreRecordsOf, StopsFor};
@@ -52,7 +52,7 @@ pub fn made_records(
     blocks: u32,
 ) -> Result<Vec<u8>, Refused<AtHeight>>
     requires seeds { seed < seed_limit }
-    requires heights { blocks ≤ max_height }
+    requires heights { blocks ≤ height_limit }
     ensures made { IfOk result (λ v. AreRecordsOf witness seed blocks v.items) }
     ensures stops { IfErr result (λ e. StopsFor seed blocks e) }
 {

@@ -1,7 +1,7 @@
 //! One made block, and what the block above it needs.
 ghost use Rattle.std.specs.Prelude.{◌≡◌, ◌≤◌, ◌<◌, ◌+◌, ◌*◌, pos, Some, IfOk, length, map};
 ghost use Rattle.cf_block.specs.{tx_spelling, merkle_root_of, txids as txids_of};
-ghost use Rattle.cf_chain.specs.{max_height};
+ghost use Rattle.cf_headers.specs.Chain.{height_limit};
 ghost use Rattle.cf_make.specs.Made.{seed_limit, first_coin};
 ghost use Rattle.cf_make.specs.Tipping.{MinesHashed, MakesTipped};
 
@@ -57,7 +57,7 @@ pub(crate) struct Tipped {
 
 // The header of a block at a height, before its nonce is sought: 600 seconds a block, from genesis's time on.
 fn unmined(height: u32, previous: Hash32, root: Hash32) -> Header
-    requires { height ≤ max_height }
+    requires { height ≤ height_limit }
     ensures { result ≡ record {
       version = pos 4;
       previous = previous;
@@ -117,7 +117,7 @@ pub(crate) fn make_tipped(
     tip: Tip,
 ) -> Result<Tipped, Refused<AtHeight>>
     requires seeds { seed < seed_limit }
-    requires heights { height ≤ max_height }
+    requires heights { height ≤ height_limit }
     ensures { MakesTipped seed height tip result }
 {
     let txs = make_txs(alloc, seed, height, tip.coin)?;

@@ -1,6 +1,6 @@
 //! What has passed the wires, as far as the user is told of it.
 use crate::counting::Counts;
-use cf_bytes::{Hash32, PeerNo};
+use cf_bytes::{Hash32, PLACES, PeerNo};
 use cf_wires::Delivery;
 use std::time::Duration;
 use thiserror::Error;
@@ -114,12 +114,12 @@ pub(crate) struct Progress {
 #[derive(Drop)]
 pub(crate) struct Passed {
     // None where the peer was not dialled yet.
-    stands: [Option<Stand>; 9],
+    stands: [Option<Stand>; PLACES],
     // What each peer was asked for last.
-    asked: [Asked; 9],
+    asked: [Asked; PLACES],
     // The same of a peer that was asked for filters last.
-    spans: [Option<FilterSpan>; 9],
-    counts: [Counts; 9],
+    spans: [Option<FilterSpan>; PLACES],
+    counts: [Counts; PLACES],
     // Whether time was the last that was delivered.
     at_tick: bool,
     // Whose bytes were the last that was delivered.
@@ -134,10 +134,10 @@ impl Passed {
     /// Nothing has passed.
     pub(crate) fn new() -> Passed {
         Passed {
-            stands: [None; 9],
-            asked: [Asked::Handshake; 9],
-            spans: [None; 9],
-            counts: [Counts::new(); 9],
+            stands: [None; PLACES],
+            asked: [Asked::Handshake; PLACES],
+            spans: [None; PLACES],
+            counts: [Counts::new(); PLACES],
             at_tick: false,
             heard: None,
             told: None,

@@ -52,9 +52,9 @@ Scans status before after (Ok scripts) (Err bad) = IsUnwritten status before aft
 Scans status before after (Err fault) blocks = IsUnwritten status before after
 
 -- no such height: the tip is told
-abbrev pub IsAbove : Status → Option (List ℕ) → Option (List ℕ) → ℕ → Type 0
-IsAbove (NoHeight tip) before after top = (tip ≡ top) × (after ≡ before)
-IsAbove status before after top = IsUnwritten status before after
+abbrev pub TellsTip : Status → Option (List ℕ) → Option (List ℕ) → ℕ → Type 0
+TellsTip (NoHeight tip) before after top = (tip ≡ top) × (after ≡ before)
+TellsTip status before after top = IsUnwritten status before after
 
 -- the lines of a block that there is
 abbrev pub TellsFilter : Status → Option (List ℕ) → Option (List ℕ) → Option Filtered → Type 0
@@ -63,7 +63,7 @@ TellsFilter status before after None = IsUnwritten status before after
 
 -- what `filter` answers of a height in a good file: that it is above the tip, where it is, or the block's lines
 abbrev pub TellsHeight : Status → Option (List ℕ) → Option (List ℕ) → List Block → ℕ → Bool → Type 0
-TellsHeight status before after blocks height true = IsAbove status before after (length blocks)
+TellsHeight status before after blocks height true = TellsTip status before after (length blocks)
 TellsHeight status before after blocks height false = TellsFilter status before after (filter_at blocks height)
 
 -- `filter`, by its file as it is read

@@ -5,7 +5,7 @@ use Rattle.cf_conn.specs.Source.{with_front}
 use Rattle.cf_tasks.specs.declared.entry.Item.{Item}
 use Rattle.cf_tasks.specs.Queue.{IsStart}
 use Rattle.cf_outside.specs.declared.entry.EntryKind.{EntryKind}
-use Rattle.cf_outside.specs.Pieces.{is_last, joined, is_open, HasLast, Reads}
+use Rattle.cf_outside.specs.Pieces.{is_last, bytes_in, is_open, HasLast, Reads}
 use Rattle.cf_outside.proofs.Readers.{joined-append}
 use Rattle.cf_outside.proofs.Lasts.{last_stays}
 
@@ -50,11 +50,11 @@ fronts f xs None e = absurd (true≢false (ap is_told e))
 fronts f xs (Some rest) e = (rest, ap told e, refl)
 
 module _ {S : Type 0} (left : S → Option (List ℕ)) (faults : S → ℕ) (ended : S → Bool) where
-  pub first_bytes : (a b : S) (sent got : List (Item EntryKind)) (xs : List ℕ) → Reads left faults ended a sent b → IsStart got sent → left a ≡ Some xs → IsStart (joined got) xs
+  pub first_bytes : (a b : S) (sent got : List (Item EntryKind)) (xs : List ℕ) → Reads left faults ended a sent b → IsStart got sent → left a ≡ Some xs → IsStart (bytes_in got) xs
   first_bytes a b sent got xs r st t =
-      let g = fronts (joined sent ++ r.0) xs (left b) (sym t ∙ r.1) in
-      let split : joined sent ≡ joined got ++ joined st.0 = ap joined st.1 ∙ joined-append got st.0 in
-      (joined st.0 ++ r.0 ++ g.0, g.1 ∙ ap (λ l. l ++ r.0 ++ g.0) split ∙ assoc (joined got) (joined st.0) r.0 g.0)
+      let g = fronts (bytes_in sent ++ r.0) xs (left b) (sym t ∙ r.1) in
+      let split : bytes_in sent ≡ bytes_in got ++ bytes_in st.0 = ap bytes_in st.1 ∙ joined-append got st.0 in
+      (bytes_in st.0 ++ r.0 ++ g.0, g.1 ∙ ap (λ l. l ++ r.0 ++ g.0) split ∙ assoc (bytes_in got) (bytes_in st.0) r.0 g.0)
     where
       assoc : (p q s u : List ℕ) → p ++ q ++ s ++ u ≡ p ++ (q ++ s ++ u)
       assoc p q s u = ap (λ l. l ++ u) (append_assoc p q s) ∙ append_assoc p (q ++ s) u
@@ -63,16 +63,16 @@ module _ {S : Type 0} (left : S → Option (List ℕ)) (faults : S → ℕ) (end
   at_end : (o : Option (List ℕ)) (rest : List ℕ) → o ≡ Some rest → IfSome o (λ l. l ≡ []) → rest ≡ []
   at_end o rest e h = let P : Option (List ℕ) → Type 0 = λ z. IfSome z (λ l. l ≡ []) in subst P e h
 
-  pub all_bytes : (a b : S) (sent got : List (Item EntryKind)) (xs : List ℕ) → Reads left faults ended a sent b → IsStart got sent → HasLast got → ¬ HasRisen (faults a) (faults b) → left a ≡ Some xs → joined got ≡ xs
+  pub all_bytes : (a b : S) (sent got : List (Item EntryKind)) (xs : List ℕ) → Reads left faults ended a sent b → IsStart got sent → HasLast got → ¬ HasRisen (faults a) (faults b) → left a ≡ Some xs → bytes_in got ≡ xs
   all_bytes a b sent got xs r st l calm t =
-      let g = fronts (joined sent ++ r.0) xs (left b) (sym t ∙ r.1) in
+      let g = fronts (bytes_in sent ++ r.0) xs (left b) (sym t ∙ r.1) in
       elim r.2 [
         | inl o ↦ absurd (true≢false (sym o ∙ ap is_open st.1 ∙ last_stays got st.0 l))
         | inr x ↦
             let q : x.0 ++ x.1 ∷ [] ≡ got ++ st.0 = sym x.2 ∙ st.1 in
             let whole : got ≡ sent = whole_with_last x.0 x.1 got st.0 x.3 q l ∙ sym x.2 in
             elim x.6 [
-              | inl y ↦ let none = at_end (left b) g.0 g.2 y.1 in ap joined whole ∙ sym (g.1 ∙ ap (λ z. joined sent ++ z ++ g.0) x.5 ∙ ap (λ z. (joined sent ++ []) ++ z) none ∙ append-nil (joined sent ++ []) ∙ append-nil (joined sent))
+              | inl y ↦ let none = at_end (left b) g.0 g.2 y.1 in ap bytes_in whole ∙ sym (g.1 ∙ ap (λ z. bytes_in sent ++ z ++ g.0) x.5 ∙ ap (λ z. (bytes_in sent ++ []) ++ z) none ∙ append-nil (bytes_in sent ++ []) ∙ append-nil (bytes_in sent))
               | inr y ↦ absurd (calm y)
             ]
       ]

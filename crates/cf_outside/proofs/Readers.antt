@@ -7,12 +7,12 @@ use Rattle.cf_tasks.specs.declared.entry.Item.{Item}
 use Rattle.cf_tasks.specs.Queue.{entry}
 use Rattle.cf_outside.specs.declared.entry.EntryKind.{EntryKind}
 use Rattle.cf_outside.specs.declared.entry.EntryKind.TheVariants.{Got, Last}
-use Rattle.cf_outside.specs.Pieces.{bytes_of, is_last, joined, is_open, Gives, Ends, Goes, Stops, Reads, HasStopped}
+use Rattle.cf_outside.specs.Pieces.{bytes_of, is_last, bytes_in, is_open, Gives, Ends, Goes, Stops, Reads, HasStopped}
 use Rattle.cf_outside.proofs.Lasts.{closes}
 
-pub joined-append : (xs ys : List (Item EntryKind)) → joined (xs ++ ys) ≡ joined xs ++ joined ys
+pub joined-append : (xs ys : List (Item EntryKind)) → bytes_in (xs ++ ys) ≡ bytes_in xs ++ bytes_in ys
 joined-append [] ys = refl
-joined-append (x ∷ xs) ys = ap (λ l. bytes_of x.kind ++ l) (joined-append xs ys) ∙ sym (append_assoc (bytes_of x.kind) (joined xs) (joined ys))
+joined-append (x ∷ xs) ys = ap (λ l. bytes_of x.kind ++ l) (joined-append xs ys) ∙ sym (append_assoc (bytes_of x.kind) (bytes_in xs) (bytes_in ys))
 
 pub is_open-snoc : (xs : List (Item EntryKind)) (x : Item EntryKind) → is_open xs ≡ true → is_last x.kind ≡ false → is_open (xs ++ x ∷ []) ≡ true
 is_open-snoc [] x o l = ap (λ b. not b && true) l
@@ -41,7 +41,7 @@ module _ {S : Type 0} (left : S → Option (List ℕ)) where
   module _ (faults : S → ℕ) (ended : S → Bool) where
     -- what a reader has done so far
     abbrev pub SoFar : S → List (Item EntryKind) → S → Type 0
-    SoFar a sent b = (is_open sent ≡ true) × Gives left a (joined sent) b × (faults b ≡ faults a)
+    SoFar a sent b = (is_open sent ≡ true) × Gives left a (bytes_in sent) b × (faults b ≡ faults a)
 
     pub starts : (a : S) → SoFar a [] a
     starts a = (refl, gives_nothing a, refl)
@@ -52,7 +52,7 @@ module _ {S : Type 0} (left : S → Option (List ℕ)) where
         let Q : List (Item EntryKind) → Type 0 = λ l. SoFar a l c in
         subst Q (sym g.1) (
           is_open-snoc sent e h.0 refl,
-          (let G : List ℕ → Type 0 = λ l. Gives left a l c in subst G (ap (λ l. joined sent ++ l) (sym (append-nil g.0)) ∙ sym (joined-append sent (e ∷ []))) (gives_more a b c (joined sent) g.0 h.1 g.2)),
+          (let G : List ℕ → Type 0 = λ l. Gives left a l c in subst G (ap (λ l. bytes_in sent ++ l) (sym (append-nil g.0)) ∙ sym (joined-append sent (e ∷ []))) (gives_more a b c (bytes_in sent) g.0 h.1 g.2)),
           g.3 ∙ h.2,
         )
 
@@ -65,10 +65,10 @@ module _ {S : Type 0} (left : S → Option (List ℕ)) where
         elim g [
           | inl x ↦ subst Q (sym x.0) (
             [],
-            subst G (sym (joined-append sent (e ∷ [])) ∙ sym (append-nil (joined (sent ++ e ∷ [])))) (gives_more a b c (joined sent) [] h.1 x.1),
+            subst G (sym (joined-append sent (e ∷ [])) ∙ sym (append-nil (bytes_in (sent ++ e ∷ [])))) (gives_more a b c (bytes_in sent) [] h.1 x.1),
             inr (sent, e, refl, h.0, refl, refl, elim x.2 [ inl y ↦ inl y | inr y ↦ inr (subst F h.2 y) ]),
           )
-          | inr x ↦ subst Q (sym x.0) (x.2.0, gives_more a b c (joined sent) x.2.0 h.1 x.2.1, inl h.0)
+          | inr x ↦ subst Q (sym x.0) (x.2.0, gives_more a b c (bytes_in sent) x.2.0 h.1 x.2.1, inl h.0)
         ]
 
     -- it stops only once a last entry was sent, or one came back

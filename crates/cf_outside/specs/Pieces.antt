@@ -18,9 +18,9 @@ is_last (Tick s) = false
 is_last Last = true
 
 -- the pieces, joined
-abbrev pub joined : List (Item EntryKind) → List ℕ
-joined [] = []
-joined (e ∷ es) = bytes_of e.kind ++ joined es
+abbrev pub bytes_in : List (Item EntryKind) → List ℕ
+bytes_in [] = []
+bytes_in (e ∷ es) = bytes_of e.kind ++ bytes_in es
 
 -- there is no last entry
 abbrev pub is_open : List (Item EntryKind) → Bool
@@ -51,7 +51,7 @@ module _ {S : Type 0} (left : S → Option (List ℕ)) where
       -- the pieces are the first bytes that the source gave. A last entry comes only after its end or a fault, with all that it gave, and nothing follows it
       abbrev pub Reads : S → List (Item EntryKind) → S → Type 0
       Reads before sent after =
-          (lost : List ℕ) × Gives before (joined sent ++ lost) after
+          (lost : List ℕ) × Gives before (bytes_in sent ++ lost) after
           × ((is_open sent ≡ true) ⊎ ((es : List (Item EntryKind)) × (e : Item EntryKind) × (sent ≡ es ++ e ∷ []) × (is_open es ≡ true) × (e.kind ≡ Last) × (lost ≡ []) × Ends before after))
 
 -- a last entry stands there

@@ -286,3 +286,9 @@ WasAsked [] m = ⊥
 WasAsked (Called ∷ t) m = ⊥
 WasAsked (Asked n ∷ t) m = (m ≡ n) ⊎ WasAsked t m
 WasAsked (_ ∷ t) m = WasAsked t m
+
+-- a message that replies to another at once
+abbrev pub IsReply : Msg → Type 0
+IsReply Verack = Unit {0}
+IsReply (Pong number) = Unit {0}
+IsReply m = ⊥

@@ -22,8 +22,6 @@ use Rattle.cf_server.specs.Serving.{text_of}
 abbrev pub came : Log → ℕ → List ℕ
 came [] p = []
 came (Took (Got q piece) ∷ log) p = if q.0 == p then came log p ++ piece else came log p
-came (Took (Gone q) ∷ log) p = came log p
-came (Took (Tick s) ∷ log) p = came log p
 came (_ ∷ log) p = came log p
 
 -- the messages that the sends to p spell, in order

@@ -8,7 +8,7 @@ use Rattle.cf_peer.specs.Acts.{IsSendable}
 use Rattle.cf_played.specs.Answers.{is_filtering, IsAlike, AreAlike}
 use Rattle.cf_server.specs.declared.answering.Serving.{Serving}
 use Rattle.cf_server.specs.declared.reply.Reply.{Reply}
-use Rattle.cf_server.specs.declared.reply.Reply.TheVariants.{OwnVersion, OwnVerack, PongOf, HeadersOf, BlockAt, CfilterAt, CfheadersOf, CfcheckptOf}
+use Rattle.cf_server.specs.declared.reply.Reply.TheVariants.{PongOf}
 use Rattle.cf_server.specs.Serving.{text_of}
 
 -- the machine that answers: its time is 0 and its number 0; a version has come, or none has
@@ -17,14 +17,8 @@ machine seen = record { time = pos 0; nonce = 0; seen = seen }
 
 -- a number that a reply has is one of 64 bits
 abbrev pub IsInRange : Reply → Type 0
-IsInRange OwnVersion = Unit {0}
-IsInRange OwnVerack = Unit {0}
 IsInRange (PongOf number) = number < 2 ^ 64
-IsInRange (HeadersOf start count) = Unit {0}
-IsInRange (BlockAt height) = Unit {0}
-IsInRange (CfilterAt height) = Unit {0}
-IsInRange (CfheadersOf start stop_height stop) = Unit {0}
-IsInRange (CfcheckptOf stop_height stop) = Unit {0}
+IsInRange _ = Unit {0}
 
 -- a message tells of filters, and can be written
 pub record IsOther (m : Msg) : Type 0 where

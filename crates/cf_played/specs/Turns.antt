@@ -32,8 +32,6 @@ IsTurn peers from None = Rest peers 0 (length peers)
 abbrev pub last_served : Log → ℕ
 last_served [] = 0
 last_served (Took (Got q piece) ∷ log) = q.0
-last_served (Took (Gone q) ∷ log) = last_served log
-last_served (Took (Tick s) ∷ log) = last_served log
 last_served (_ ∷ log) = last_served log
 
 -- this piece was taken from the front of what waits of the peer at a place

@@ -2,7 +2,7 @@
 ghost use Rattle.std.specs.Prelude.{◌≡◌, ◌≤◌, ◌<◌, ◌+◌, Bool, true, length, IfOk, IfSome, OnOk};
 ghost use Rattle.std.specs.List.{AllByRecursion};
 ghost use Rattle.cf_block.specs.{IsHash};
-ghost use Rattle.cf_chain.specs.{max_height};
+ghost use Rattle.cf_headers.specs.Chain.{height_limit};
 ghost use Rattle.cf_played.specs.Answers.{is_filtering};
 ghost use Rattle.cf_played.specs.Frames.{AreFramesAlike, IsFrameAlike, IsOther, machine};
 ghost use Rattle.cf_server.specs.{IsReplyOf, AreRepliesOf, message_of, messages_of};
@@ -228,7 +228,7 @@ fn cfcheckpt(
     stop_height: u32,
     stop: Hash32,
 ) -> Result<Msg, NoMemory>
-    requires { stop_height ≤ max_height }
+    requires { stop_height ≤ height_limit }
     ensures { IfOk result IsOther }
 {
     Ok(Msg::Cfcheckpt {

@@ -18,7 +18,7 @@ use crate::omitting::filters_without;
 use crate::player::Player;
 use crate::turns::next_turn;
 use crate::waiting::Waiting;
-use cf_bytes::{Listed, NoMemory, PeerNo, Refused};
+use cf_bytes::{Listed, NoMemory, PLACES, PeerNo, Refused};
 use cf_index::{CheckedChain, Index};
 use cf_make::Chain;
 use cf_walk::BadBlock;
@@ -40,7 +40,7 @@ pub struct Played {
     from: usize,
     dials: u32,
     // Which peers were closed, by their numbers.
-    closed: [bool; 9],
+    closed: [bool; PLACES],
     log: Vec<Event>,
     // Whether the log is to be kept.
     keeps: bool,
@@ -107,7 +107,7 @@ fn note(log: &mut Vec<Event>, e: Event)
 }
 
 // Puts a close at the end of the log. The room for it was there from the start.
-fn shut(log: &mut Vec<Event>, closed: &mut [bool; 9], p: PeerNo)
+fn shut(log: &mut Vec<Event>, closed: &mut [bool; PLACES], p: PeerNo)
     requires room { vec_len log.old + count_by not closed.old ≤ vec_capacity log.old }
     requires dialled { p.0 ≤ 8 }
     requires once { slice_index_or closed.old p.0 false ≡ false }
@@ -162,8 +162,7 @@ impl Played {
     ghost use Rattle.cf_chain.specs.{IsGoodChain};
     ghost use Rattle.cf_played.specs.Peers.{Peer, made_of, still};
     ghost use Rattle.cf_played.specs.Told.{HasAdded, IfRefused, log_of, told_of, keeps_of, finished_of, peers_of};
-    ghost use Rattle.cf_played.specs.Answers.{came, told_to, answered_to, is_plain, HasBegun, HasAnswered};
-    ghost use Rattle.cf_played.specs.Answers.{HasBegunAlike};
+    ghost use Rattle.cf_played.specs.Answers.{came, told_to, answered_to, is_plain, HasBegun, HasAnswered, HasBegunAlike};
 
     /// No peers.
     pub fn new(alloc: Global) -> Result<Played, NoMemory>
@@ -177,8 +176,8 @@ impl Played {
             players: Vec::new(alloc),
             from: 0,
             dials: 0,
-            closed: [false; 9],
-            log: Vec::with_capacity(alloc, 9)?,
+            closed: [false; PLACES],
+            log: Vec::with_capacity(alloc, PLACES)?,
             keeps: false,
             finished: false,
         })

@@ -3,7 +3,7 @@ ghost use Rattle.std.specs.Prelude.{◌≡◌, ℕ, ◌<◌, ◌≤◌, IfSome, 
 ghost use Rattle.cf_run.specs.Moments.{IsUnused, state_at, is_pending as pending_at, is_fine, trouble};
 
 use crate::trace::TraceLine;
-use cf_bytes::PeerNo;
+use cf_bytes::{PLACES, PeerNo};
 use std::alloc::Global;
 
 /// How the sends to a peer have gone.
@@ -20,8 +20,8 @@ pub enum SendState {
 /// What a run notes, by the numbers of the peers, 1 to 8.
 #[derive(Drop)]
 pub struct Progress {
-    pub(crate) sends: [SendState; 9],
-    pub(crate) closed: [bool; 9],
+    pub(crate) sends: [SendState; PLACES],
+    pub(crate) closed: [bool; PLACES],
     pub(crate) trace: Vec<TraceLine>,
 }
 
@@ -31,8 +31,8 @@ impl Progress {
         ensures { IsUnused result }
     {
         Progress {
-            sends: [SendState::Fine; 9],
-            closed: [false; 9],
+            sends: [SendState::Fine; PLACES],
+            closed: [false; PLACES],
             trace: Vec::new(alloc),
         }
     }
@@ -83,7 +83,7 @@ impl Progress {
             → q < p.0 → pending_at (state_at self.now.sends q) ≡ false)) }
         ensures none { IfNone result ((q : ℕ) → pending_at (state_at self.now.sends q) ≡ false) }
     {
-        for i in 0..9 {
+        for i in 0..PLACES {
             if self.sends[i] == SendState::Pending {
                 return Some(PeerNo(i as u32));
             }

@@ -3,9 +3,8 @@ use Rattle.std.proofs.Common.{◌≡◌, inl, inr, ℕ, ◌+◌, ◌≤◌, sym,
 use Rattle.std.specs.Prelude.{IsSome}
 use Rattle.std.proofs.lemmas.Bool.{cases_lt}
 use Rattle.cf_dispute.specs.Claims.{Tables}
-use Rattle.cf_headers.specs.Chain.{Hash, Chain}
+use Rattle.cf_headers.specs.Chain.{Hash, Chain, IsAbove}
 use Rattle.cf_headers.specs.Heights.{hash_at}
-use Rattle.cf_tables.specs.Wanting.{IsAbove}
 use Rattle.cf_seek.specs.Ends.{IsLastUnclaimed}
 
 alone : (own : Chain) (good : Hash → Type 0) (start : ℕ) → good (hash_at own start) → (k : ℕ) → start ≤ k → k ≤ start → good (hash_at own k)

@@ -18,9 +18,9 @@ use Rattle.cf_dispute.proofs.PutIn.{same_from, same_off, in_or_out}
 use Rattle.cf_dispute.specs.Claims as dispute
 use Rattle.cf_headers.specs.declared.change.Change.{Change}
 use Rattle.cf_headers.specs.Rules.{same}
-use Rattle.cf_headers.specs.Chain.{Hash, Chain, Accepted, Longer, NoLonger, Unlinked, Invalid, TooHigh, accept, lower, IsIn}
+use Rattle.cf_headers.specs.Chain.{Hash, Chain, Accepted, Longer, NoLonger, Unlinked, Invalid, TooHigh, accept, lower, IsIn, chain_after}
 use Rattle.cf_headers.specs.Heights.{hash_at}
-use Rattle.cf_headers.specs.Changes.{link_height, change_of, chain_after}
+use Rattle.cf_headers.specs.Changes.{link_height, change_of}
 use Rattle.cf_headers.specs.Store.{Chains, own_of, Puts, Stays}
 use Rattle.cf_headers.proofs.Accepting.{grown_is}
 use Rattle.cf_match.specs.declared.job.Job.{Job}

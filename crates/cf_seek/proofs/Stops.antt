@@ -13,7 +13,8 @@ use Rattle.cf_seek.specs.Spans.{IsSpan, IsWish, GoesFar}
 use Rattle.cf_tables.specs.Known.{ExtractTable}
 use Rattle.cf_seek.specs.Opens.{Opens}
 use Rattle.cf_seek.specs.Seeking.{AreSought, AreToAsk, IsLastToAsk, IsSought, IsToAsk}
-use Rattle.cf_tables.specs.Wanting.{IsAbove, AreClaimed}
+use Rattle.cf_tables.specs.Wanting.{AreClaimed}
+use Rattle.cf_headers.specs.Chain.{IsAbove, Hash, Chain, tip_hash, back_to, lower, above}
 use Rattle.cf_tables.proofs.Told.{first_is}
 use Rattle.std.proofs.lemmas.List.{take-append-drop, reverse-append, reverse-reverse, length-reverse, length-drop, map-append}
 use Rattle.std.proofs.lemmas.Grind.{common_steps, take_at_read}
@@ -23,7 +24,6 @@ use Rattle.cf_bytes.specs.declared.hash.Hash32.{Hash32}
 use Rattle.cf_headers.proofs.Stacks.{lower_reverse}
 use Rattle.cf_headers.proofs.Found.{back_ends, found_low}
 use Rattle.cf_seek.proofs.Along.{hash_of_next}
-use Rattle.cf_headers.specs.Chain.{Hash, Chain, tip_hash, back_to, lower, above}
 use Rattle.cf_headers.specs.Heights.{hash_at, height_of}
 use Rattle.cf_headers.proofs.ChainLaws.{back_in}
 

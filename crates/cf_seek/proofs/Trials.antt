@@ -6,7 +6,7 @@ use Rattle.std.proofs.lemmas.Bool.{cases_lt}
 use Rattle.cf_block.specs.Header.{block_hash_of, genesis_header}
 use Rattle.cf_bytes.specs.declared.hash.Hash32.{Hash32}
 use Rattle.cf_dispute.specs.Claims.{Tables}
-use Rattle.cf_headers.specs.Chain.{Hash, Chain, back_to, lower, tip_hash}
+use Rattle.cf_headers.specs.Chain.{Hash, Chain, back_to, lower, tip_hash, IsAbove}
 use Rattle.cf_headers.specs.Heights.{hash_at, height_of}
 use Rattle.cf_headers.proofs.ChainLaws.{back_in}
 use Rattle.cf_seek.specs.Testing.{IsTrial, IsNextTrial}
@@ -15,7 +15,6 @@ use Rattle.cf_seek.proofs.Sought.{placed_low}
 use Rattle.cf_seek.proofs.Stops.{length_found}
 use Rattle.cf_headers.proofs.Found.{back_ends, found_low}
 use Rattle.cf_tables.specs.Known.{ExtractTable, TestResults}
-use Rattle.cf_tables.specs.Wanting.{IsAbove}
 
 -- ---- blocks by heights
 

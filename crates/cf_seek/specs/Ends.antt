@@ -1,9 +1,8 @@
 -- statement: how far one question goes.
 use Rattle.std.specs.Prelude.{◌≡◌, ◌⊎◌, ℕ, ◌+◌, ◌≤◌, None}
 use Rattle.cf_dispute.specs.Claims.{Tables}
-use Rattle.cf_headers.specs.Chain.{Chain}
+use Rattle.cf_headers.specs.Chain.{Chain, IsAbove}
 use Rattle.cf_headers.specs.Heights.{hash_at}
-use Rattle.cf_tables.specs.Wanting.{IsAbove}
 
 -- of a peer's blocks between two heights it claims none; none has genesis's hash
 abbrev pub AreUnclaimed : Tables → ℕ → Chain → ℕ → ℕ → Type 0

@@ -1,7 +1,7 @@
 -- statement: what is to be asked for that isn't open to anybody.
 use Rattle.std.specs.Prelude.{◌≡◌, ℕ, ◌≤◌, ◌+◌, ◌-◌, ◌⊎◌, false, None, Some, ◌<◌, List, length, slice_index_or}
 use Rattle.cf_dispute.specs.Claims.{Tables}
-use Rattle.cf_headers.specs.Chain.{Hash, Chain}
+use Rattle.cf_headers.specs.Chain.{Hash, Chain, IsAbove}
 use Rattle.cf_headers.specs.Heights.{hash_at, height_of}
 use Rattle.cf_match.specs.declared.job.Job.{Job}
 use Rattle.cf_match.specs.declared.job.Verdict.{Verdict}
@@ -11,7 +11,7 @@ use Rattle.cf_seek.specs.declared.want.Want.{Want}
 use Rattle.cf_seek.specs.declared.want.Want.TheVariants.{Nothing, Claims, Filters, Block}
 use Rattle.cf_seek.specs.Opens.{Opens, IsFilterFree, IsBlockFree}
 use Rattle.cf_tables.specs.Known.{ExtractTable}
-use Rattle.cf_tables.specs.Wanting.{IsAbove, IsUnjudged, IsToFetch, AreClaimed}
+use Rattle.cf_tables.specs.Wanting.{IsUnjudged, IsToFetch, AreClaimed}
 
 -- a block that isn't genesis: its filter is to be asked for, and is open to nobody
 pub record IsToAsk (extracts : ExtractTable) (tables : Tables) (verdicts : Verdicts) (opens : Opens) (block : Hash) : Type 0 where

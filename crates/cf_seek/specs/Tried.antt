@@ -3,13 +3,12 @@ use Rattle.std.specs.Prelude.{◌≡◌, ℕ, ◌-◌, ◌<◌, ◌≤◌, min, 
 use Rattle.cf_dispute.specs.Claims.{Tables}
 use Rattle.cf_headers.specs.declared.change.Change.{Change}
 use Rattle.cf_headers.specs.declared.change.Change.TheVariants.{Longer}
-use Rattle.cf_headers.specs.Chain.{Hash, Chain, IsIn}
+use Rattle.cf_headers.specs.Chain.{Hash, Chain, IsIn, IsAbove}
 use Rattle.cf_headers.specs.Heights.{hash_at, height_of}
 use Rattle.cf_headers.specs.Store.{Chains}
 use Rattle.cf_seek.specs.Cursors.{passed_under}
 use Rattle.cf_seek.specs.Testing.{IsToTest}
 use Rattle.cf_tables.specs.Known.{ExtractTable, TestResults}
-use Rattle.cf_tables.specs.Wanting.{IsAbove}
 
 -- of a block that hasn't genesis's hash what p claims is to be tested
 pub record IsToTry (extracts : ExtractTable) (tables : Tables) (told : TestResults) (p : ℕ) (block : Hash) : Type 0 where

@@ -2,8 +2,7 @@
 ghost use Rattle.std.specs.Prelude.{◌≡◌, ◌≢◌, ◌≤◌, ℕ, false, IfOk, vec_len};
 
 use crate::spans::Wish;
-use cf_bytes::{NoMemory, PeerNo};
-use cf_headers::PLACES;
+use cf_bytes::{NoMemory, PLACES, PeerNo};
 use std::alloc::Global;
 
 /// Of up to eight peers, whether the filters that a peer was asked for last are to be tested.

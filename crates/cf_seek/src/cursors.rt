@@ -2,8 +2,8 @@
 ghost use Rattle.std.specs.Prelude.{◌≡◌, ◌≤◌, ℕ, true, false, replicate, slice_index_or, slice_set, vec_len, IfOk};
 ghost use Rattle.cf_seek.specs.Cursors.{fallen, further, lowered, marks_at, no_marks, raised, settled, unpassed, unsought};
 
-use cf_bytes::{NoMemory, PeerNo};
-use cf_headers::{Change, PLACES};
+use cf_bytes::{NoMemory, PLACES, PeerNo};
+use cf_headers::Change;
 use std::alloc::Global;
 use std::marker::Model;
 

@@ -8,8 +8,7 @@ ghost use Rattle.cf_seek.specs.Opening.{Closes, OpensBlock, OpensFilters, OpensS
 
 use crate::open_at::OpenAt;
 use crate::spans::Wish;
-use cf_bytes::{Hash32, NoMemory, PeerNo};
-use cf_headers::PLACES;
+use cf_bytes::{Hash32, NoMemory, PLACES, PeerNo};
 use std::alloc::Global;
 
 /// What stands in the requests for filters and for blocks that are open to up to eight peers. Blocks are named by their

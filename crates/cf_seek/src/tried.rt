@@ -6,9 +6,9 @@ ghost use Rattle.cf_seek.specs.Tried.{IsOn, IsTriedBelow, tried_after, tried_at,
 ghost use Rattle.cf_tables.specs.{table_in};
 
 use crate::seek::passed_below;
-use cf_bytes::{Hash32, NoMemory, PeerNo};
+use cf_bytes::{Hash32, NoMemory, PLACES, PeerNo};
 use cf_dispute::Claims;
-use cf_headers::{Change, HeaderStore, PLACES};
+use cf_headers::{Change, HeaderStore};
 use cf_tables::{Extracts, is_differing};
 use std::alloc::Global;
 use std::marker::Model;

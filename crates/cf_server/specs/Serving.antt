@@ -70,7 +70,7 @@ text_of messages = flat_map (λ m. spelling (frame_of m)) messages
 
 -- those of the machine's replies to these messages
 abbrev pub reply_bytes : ℤ → ℕ → List Block → List Msg → List ℕ
-reply_bytes now nonce blocks messages = text_of (replies now nonce blocks false messages)
+reply_bytes moment nonce blocks messages = text_of (replies moment nonce blocks false messages)
 
 -- all of a text was written
 abbrev pub Whole : Option (List ℕ) → Option (List ℕ) → List ℕ → Type 0
@@ -99,11 +99,11 @@ Writes NoMemory before after text = Beginning before after text
 Writes outcome before after text = Whole before after text
 
 -- Of a connection whose source told these bytes: those of them that were taken, where the outcome comes, and what was written for them.
-pub record IsServed (now : ℤ) (nonce : ℕ) (blocks : List Block) (outcome : ServeEnd) (bytes : List ℕ) (left before after : Option (List ℕ)) : Type 0 where
+pub record IsServed (moment : ℤ) (nonce : ℕ) (blocks : List Block) (outcome : ServeEnd) (bytes : List ℕ) (left before after : Option (List ℕ)) : Type 0 where
   pub taken : List ℕ
   pub rest : Some bytes ≡ with_front taken left
   pub comes : ComesAt outcome (course most_frames taken).stop
-  pub writes : Writes outcome before after (reply_bytes now nonce blocks (course most_frames taken).messages)
+  pub writes : Writes outcome before after (reply_bytes moment nonce blocks (course most_frames taken).messages)
 
 -- a fault comes only where its count has risen; the counts of reading and of writing stand still otherwise
 abbrev pub Counts : ServeEnd → ℕ → ℕ → ℕ → ℕ → Type 0

@@ -6,7 +6,7 @@ use Rattle.cf_server.specs.Serving.{Whole, course, most_frames, reply_bytes}
 
 -- what is owed for the whole frames in these bytes
 abbrev pub owed_for : ℤ → ℕ → List Block → List ℕ → List ℕ
-owed_for now nonce blocks taken = reply_bytes now nonce blocks (course most_frames taken).messages
+owed_for moment nonce blocks taken = reply_bytes moment nonce blocks (course most_frames taken).messages
 
 -- So many pieces were read, which are these bytes joined. As each was read the connection stood so that the pieces before it were taken, and all that is owed
 -- for the whole frames in them was written.

@@ -6,7 +6,8 @@ ghost use Rattle.cf_block.specs.{first_block};
 ghost use Rattle.cf_frame.specs.{IsFrame, spelling};
 ghost use Rattle.cf_msg.specs.declared.msg.Msg.TheVariants.{Block as BlockMessage, Headers as HeadersMessage};
 ghost use Rattle.cf_msg.specs.{IsWithinLimits, frame_of, payload_of};
-ghost use Rattle.cf_chain.specs.{first_filtered, filters_of, filter_at, IsGoodChain, max_height, all_blocks, block_height, version_reply, cfilter_of, cfheaders_of, cfcheckpt_of, header_or_zeros as header_shown, header_before as header_shown_before, thousands};
+ghost use Rattle.cf_chain.specs.{first_filtered, filters_of, filter_at, IsGoodChain, all_blocks, block_height, version_reply, cfilter_of, cfheaders_of, cfcheckpt_of, header_or_zeros as header_shown, header_before as header_shown_before, thousands};
+ghost use Rattle.cf_headers.specs.Chain.{height_limit};
 ghost use Rattle.cf_filter.specs.{filter_hash_of};
 ghost use Rattle.cf_server.specs.Replies.{IsReplyOf, message_of};
 
@@ -86,7 +87,7 @@ pub fn message_bytes(alloc: Global, msg: &Msg) -> Result<Vec<u8>, NoMemory>
 
 // The server's version, where the chain is so high.
 fn own_version(alloc: Global, served: &Serving, tip: u32) -> Result<Vec<u8>, NoMemory>
-    requires { tip ≤ max_height }
+    requires { tip ≤ height_limit }
     ensures { IfOk result (λ bytes. (blocks : List Block) → tip ≡ length blocks
         → bytes.items ≡ spelling (frame_of (version_reply served.now.time served.now.nonce blocks))) }
 {

@@ -27,7 +27,7 @@ use Rattle.cf_headers.specs.Rules.{same}
 use Rattle.cf_match.specs.declared.job.Job.{Job}
 use Rattle.cf_peer.specs.declared.peer.Cause.TheVariants.{Omits}
 use Rattle.cf_sync.proofs.Filters.{false_filter_hash_is, nothing_lacks}
-use Rattle.cf_sync.specs.Example.{only_header, only_block, only_hash, chain_of_one, honest_peer, liar, its_version, question, its_headers, ask_claims, its_claims, false_claims, ask_filter, its_filter, fetch, its_block, false_version, genesis_filter_header, only_filter_hash, false_filter_hash, other_watch, log_8, dispute_9, dispute_10, dispute_11, dispute_12, dispute_13, dispute_14, dispute_15, dispute_16, dispute_17, dispute_18, dispute_19, dispute_20, dispute_21, disputed_run, false_answer, dispute_22, dispute_23, dispute_24, dispute_25, dispute_26}
+use Rattle.cf_sync.specs.Example.{only_header, only_block, only_hash, chain_of_one, honest_peer, liar, its_version, question, its_headers, ask_claims, its_claims, false_claims, ask_filter, its_filter, fetch, its_block, false_version, its_first_filter_header, only_filter_hash, false_filter_hash, other_watch, log_8, dispute_9, dispute_10, dispute_11, dispute_12, dispute_13, dispute_14, dispute_15, dispute_16, dispute_17, dispute_18, dispute_19, dispute_20, dispute_21, disputed_run, false_answer, dispute_22, dispute_23, dispute_24, dispute_25, dispute_26}
 use Rattle.cf_sync.specs.Fetching.{counted_part, IsQuiet, AreBytes, IsFetched, IsFetchedHash, IsCleared, IsDisputed, IsBlockWanted, Rightly, HasClaimed, IsAlone, IsOmitting, IsTest, IsTested, blocks_in, test_after}
 use Rattle.cf_sync.proofs.Alone.{IsNoneFetching, none_filters, none_block}
 use Rattle.cf_sync.specs.Honesty.{IsHonestOver, IsHonest, was_called, ShowsNoOther}
@@ -45,7 +45,7 @@ use Rattle.cf_sync.proofs.Cleared.{cleared_of_two, silent_agrees}
 
 false_length : length (payload_of false_claims) ≡ 98
 unfolding payload_of compact
-false_length = ap (λ (x : List ℕ). length (payload_of (Cfheaders 0 (record { 0 = x }) (record { 0 = genesis_filter_header }) (record { 0 = false_filter_hash } ∷ [])))) name_is
+false_length = ap (λ (x : List ℕ). length (payload_of (Cfheaders 0 (record { 0 = x }) (record { 0 = its_first_filter_header }) (record { 0 = false_filter_hash } ∷ [])))) name_is
 
 false_sendable : IsSendable false_claims
 unfolding payload_of compact
@@ -60,7 +60,7 @@ unfolding payload_of compact
 answer_sendable = record { spelled = (omega arith, name_length, omega arith); short = omega (arith, answer_length) }
 
 abbrev false_claim : Claim
-false_claim = claim_of (record { 0 = false_filter_hash }) (record { 0 = genesis_filter_header })
+false_claim = claim_of (record { 0 = false_filter_hash }) (record { 0 = its_first_filter_header })
 
 -- ---- the parts, moment by moment
 
@@ -330,7 +330,7 @@ claim_found : claims v_9 only_hash.0 ≡ Some false_claim
 claim_found = ap (λ (c : Table). c only_hash.0) claims_9 ∙ rw self_hash refl
 
 claims_fine : fault_of false_claims v_8 ≡ None
-claims_fine = ap (λ r. claims_fault 0 only_hash.0 genesis_filter_header (record { 0 = false_filter_hash } ∷ []) r no_claims) open_8 ∙ rw (self_hash, same_self (block_hash_of genesis_header), first_same) refl
+claims_fine = ap (λ r. claims_fault 0 only_hash.0 its_first_filter_header (record { 0 = false_filter_hash } ∷ []) r no_claims) open_8 ∙ rw (self_hash, same_self (block_hash_of genesis_header), first_same) refl
 
 clean_9 : verdict v_9 ≡ None
 clean_9 = ap (λ x. first x (fault_of false_claims v_8)) clean_7 ∙ claims_fine

@@ -6,7 +6,7 @@ use Rattle.cf_bytes.specs.declared.hash.Hash32.{Hash32}
 use Rattle.cf_block.specs.declared.header.Header.{Header}
 use Rattle.cf_block.specs.Header.{block_hash_of}
 use Rattle.cf_dispute.specs.declared.claim.Claim.{Claim}
-use Rattle.cf_dispute.specs.Claims.{Table, claim_of, with_claim, with_claims, first_header, header_at}
+use Rattle.cf_dispute.specs.Claims.{Table, claim_of, with_claim, with_claims, first_filter_header, header_at}
 use Rattle.cf_headers.specs.Rules.{same}
 use Rattle.cf_headers.specs.Chain.{Hash, Chain, back_to, above, IsIn, IsValidChain, NoHashClash}
 use Rattle.cf_headers.specs.Shown.{Shows, AreApart}
@@ -107,8 +107,8 @@ HasMoved m t stop parent blocks = (request (Said m ∷ t) ≡ ClaimsOpen stop pa
 moved : (m : Msg) (t : Trail) (stop parent : Hash) (blocks : List Hash) → fault_of m t ≡ None → request t ≡ ClaimsOpen stop parent blocks → HasMoved m t stop parent blocks
 moved (Cfheaders filter stop' previous hashes) t stop parent blocks clean e = elim (cases_Bool (is_answer_of filter stop'.0 stop)) [
   | inl on ↦ (
-      let fine : (if length blocks == length hashes then (if is_this (header_at first_header (claims t) parent) previous.0 then None else Some WrongPrevious) else Some WrongCount) ≡ None =
-      sym (ap (λ (b : Bool). if b then (if length blocks == length hashes then (if is_this (header_at first_header (claims t) parent) previous.0 then None else Some WrongPrevious) else Some WrongCount) else None) on)
+      let fine : (if length blocks == length hashes then (if is_this (header_at first_filter_header (claims t) parent) previous.0 then None else Some WrongPrevious) else Some WrongCount) ≡ None =
+      sym (ap (λ (b : Bool). if b then (if length blocks == length hashes then (if is_this (header_at first_filter_header (claims t) parent) previous.0 then None else Some WrongPrevious) else Some WrongCount) else None) on)
       ∙ sym (ap (λ r. claims_fault filter stop'.0 previous.0 hashes r (claims t)) e) ∙ clean in
       let n : length blocks ≡ length hashes = counts_same (length blocks) (length hashes) _ fine in
       inr (λ block i.

@@ -13,7 +13,7 @@ use Rattle.cf_headers.specs.Shown.{IsShown, IsShownSpelling}
 use Rattle.cf_msg.specs.declared.msg.Msg.{Msg}
 use Rattle.cf_msg.specs.declared.msg.Msg.TheVariants.{Version, Verack, Pong}
 use Rattle.cf_msg.specs.Message.{is_version}
-use Rattle.cf_peer.specs.Hearing.{IsReply}
+use Rattle.cf_peer.specs.Trail.{IsReply}
 use Rattle.cf_peer.specs.Asking.{OpenRequest, NothingOpen, PingOpen, is_idle}
 use Rattle.cf_sync.specs.Honesty.{filters_above}
 use Rattle.cf_sync.specs.Growing.{Turn, left_then, met_then, asked_then, taking_up, taken_up}

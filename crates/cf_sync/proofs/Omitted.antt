@@ -4,7 +4,7 @@ use Rattle.std.specs.Prelude.{◌||◌}
 use Rattle.std.proofs.lemmas.Bool.{false≢true, eqb-true, eq-eqb}
 use Rattle.cf_block.specs.declared.tx.Block.{Block}
 use Rattle.cf_bytes.specs.declared.hash.Hash32.{Hash32}
-use Rattle.cf_dispute.specs.Claims.{Table, first_header, header_at}
+use Rattle.cf_dispute.specs.Claims.{Table, first_filter_header, header_at}
 use Rattle.cf_filter.specs.Filter.{filter_hash_of}
 use Rattle.cf_frame.specs.declared.frame.Frame.{Frame}
 use Rattle.cf_frame.specs.declared.frame.FrameFault.{FrameFault}
@@ -52,7 +52,7 @@ claims_neither : (filter : ℕ) (stop previous : Hash) (hashes : List Hash32) (r
 claims_neither filter stop previous hashes (ClaimsOpen wanted parent blocks) table =
     neither (is_answer_of filter stop wanted) _ None
     (neither (length blocks == length hashes) _ (Some WrongCount)
-    (neither (is_this (header_at first_header table parent) previous) None (Some WrongPrevious) (λ is. cc) (λ is. cc))
+    (neither (is_this (header_at first_filter_header table parent) previous) None (Some WrongPrevious) (λ is. cc) (λ is. cc))
     (λ is. cc)) (λ is. cc)
 claims_neither filter stop previous hashes r table = λ is. cc
 

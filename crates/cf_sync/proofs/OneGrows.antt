@@ -31,7 +31,7 @@ use Rattle.cf_peer.specs.Trail.{Trail, Part, Called, Said, Asked, Passed, called
 use Rattle.cf_peer.specs.Asking.{NothingOpen, ClaimsOpen, FiltersOpen, is_idle, is_spare, is_open, age, request, request_after, claims, claims_after, claims_asked, filters_asked, claims_fault, filter_fault, fault_of, verdict, counted, given_filters, given_by, filter_of, HasSaid, IsFree, block_entry, MayAskIn}
 use Rattle.cf_scan.specs.HistoryText.{history_text}
 use Rattle.cf_scan.specs.Watching.{IsWatch}
-use Rattle.cf_sync.specs.Example.{only_header, only_hash, chain_of_one, honest_peer, our_version, its_version, question, its_headers, false_headers, ask_claims, its_claims, ask_filter, its_filter, genesis_hash, no_stop, only_filter, only_filter_hash, genesis_filter_header, other_watch, log_1, log_2}
+use Rattle.cf_sync.specs.Example.{only_header, only_hash, chain_of_one, honest_peer, our_version, its_version, question, its_headers, false_headers, ask_claims, its_claims, ask_filter, its_filter, genesis_hash, no_stop, only_filter, only_filter_hash, its_first_filter_header, other_watch, log_1, log_2}
 use Rattle.cf_sync.specs.Growth.{ping_one, pong_one, news, grow_3, grow_4, grow_5, grow_6, first_quiet, grow_8, grow_9, grow_10, grow_11, grow_12, grow_13, grow_14, grow_15, grow_16, growing_run}
 use Rattle.cf_sync.specs.Fetching.{IsQuiet, IsFetched, IsCleared, RightlyIn, MayTake, AreBytes, IsConnected}
 use Rattle.cf_sync.specs.Honesty.{was_called}
@@ -484,7 +484,7 @@ clean_13 = rw accepted refl
 
 claims_fine : fault_of its_claims v_14 ≡ None
 claims_fine =
-    ap (λ r. claims_fault 0 only_hash.0 genesis_filter_header (record { 0 = only_filter_hash } ∷ []) r no_claims)
+    ap (λ r. claims_fault 0 only_hash.0 its_first_filter_header (record { 0 = only_filter_hash } ∷ []) r no_claims)
     request_14 ∙ rw (self_hash, same_self (block_hash_of genesis_header), first_same) refl
 
 clean_15 : verdict v_15 ≡ None

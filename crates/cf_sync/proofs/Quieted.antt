@@ -3,7 +3,7 @@ use Rattle.std.proofs.Common.{◌≡◌, ◌⊎◌, inl, inr, ℕ, zero, suc, dr
 use Rattle.std.proofs.lemmas.Bool.{both_ways}
 use Rattle.cf_bytes.specs.declared.hash.Hash32.{Hash32}
 use Rattle.cf_block.specs.declared.header.Header.{Header}
-use Rattle.cf_headers.specs.Chain.{Hash, Chain, lower, IsIn, NoHashClash}
+use Rattle.cf_headers.specs.Chain.{Hash, Chain, lower, IsIn, NoHashClash, IsAbove}
 use Rattle.cf_headers.specs.Heights.{hash_at, common_of}
 use Rattle.cf_headers.specs.Shown.{IsShown, IsShownSpelling, AreApart}
 use Rattle.cf_headers.proofs.Accepting.{drop_valid}
@@ -15,7 +15,7 @@ use Rattle.cf_peer.specs.Asking.{lists, hashes_of}
 use Rattle.cf_wires.specs.Log.{Log}
 use Rattle.cf_peer.specs.Trail.{trail, is_connected, own}
 use Rattle.cf_sync.specs.Blame.{AreBlamed}
-use Rattle.cf_sync.specs.Fetching.{counted_part, IsAbove, IsConnected, AreBytes, IsFetchedHash, IsDisputed, HasClaimed, IsTestedWith, IsOmitting, IsBest, IsTestedThrough}
+use Rattle.cf_sync.specs.Fetching.{counted_part, IsConnected, AreBytes, IsFetchedHash, IsDisputed, HasClaimed, IsTestedWith, IsOmitting, IsBest, IsTestedThrough}
 use Rattle.cf_sync.specs.Sync.{IsHashed}
 use Rattle.cf_sync.proofs.Counted.{own_shown}
 use Rattle.cf_sync.proofs.Settles.{shown_hashed, shown_apart}

@@ -17,7 +17,7 @@ use Rattle.cf_chain.specs.Coins.{spent_outputs}
 use Rattle.cf_chain.specs.Filters.{Filtered, prevouts, first_filtered}
 use Rattle.cf_chain.specs.Good.{IsGoodTx, IsGoodChain}
 use Rattle.cf_dispute.specs.declared.claim.Claim.{Claim}
-use Rattle.cf_dispute.specs.Claims.{Table, no_claims, claim_of, with_claim, first_header}
+use Rattle.cf_dispute.specs.Claims.{Table, no_claims, claim_of, with_claim, first_filter_header}
 use Rattle.cf_filter.specs.Items.{items_of}
 use Rattle.cf_filter.specs.Filter.{basic_filter_of, filter_hash_of}
 use Rattle.cf_match.specs.declared.job.Job.{Job}
@@ -37,7 +37,7 @@ use Rattle.cf_peer.specs.Acts.{bytes_of}
 use Rattle.cf_peer.specs.Asking.{OpenRequest, is_spare, NothingOpen, ClaimsOpen, FiltersOpen, claims_asked, filters_asked, filter_of, claims, claims_after, claims_fault, filter_fault, fault_of, request_after, is_idle, given_filters, given_by, HasHeader, IsFree, IsRange, request, is_committed, is_open, verdict, counted, lists, fetched_blocks, HasSaid, MayAsk, SameUse}
 use Rattle.cf_wires.specs.Log.{Log}
 use Rattle.cf_peer.specs.Trail.{Trail, Part, Called, Said, Asked, called_part, heard_part, spelled, asks, part_of, trail, is_connected, ready, own, is_heard_out, longer_of, ends_by, fault_in, first, Lost, with_item, is_heard_out_in}
-use Rattle.cf_sync.specs.Example.{only_tx, only_header, only_block, only_hash, chain_of_one, honest_peer, liar, genesis_hash, no_stop, our_version, its_version, false_version, question, its_headers, false_headers, its_block, log_1, log_2, log_3, log_4, log_5, log_6, log_7, log_8, log_9, log_10, log_11, log_12, log_13, log_14, log_15, log_16, log_17, log_18, run_of_two, cleared_run, only_filter, only_filter_hash, genesis_filter_header, ask_claims, its_claims, ask_filter, its_filter}
+use Rattle.cf_sync.specs.Example.{only_tx, only_header, only_block, only_hash, chain_of_one, honest_peer, liar, genesis_hash, no_stop, our_version, its_version, false_version, question, its_headers, false_headers, its_block, log_1, log_2, log_3, log_4, log_5, log_6, log_7, log_8, log_9, log_10, log_11, log_12, log_13, log_14, log_15, log_16, log_17, log_18, run_of_two, cleared_run, only_filter, only_filter_hash, its_first_filter_header, ask_claims, its_claims, ask_filter, its_filter}
 use Rattle.cf_sync.specs.Fetching.{IsQuiet, IsBusy, AreBytes, IsFetched, IsConnected, Rightly, counted_part, IsBest, IsDisputed, IsFetchedHash, IsScanOver, IsSettled, RightlyIn}
 use Rattle.cf_sync.proofs.Alone.{IsNoneFetching, none_filters}
 use Rattle.cf_sync.specs.Honesty.{Leaves, answers, AnswersAs, IsHonestOver, IsHonest, was_called, ShowsNoOther, filters_above}
@@ -419,8 +419,8 @@ pub claims_answer : claims_said ≡ its_claims ∷ []
 claims_answer =
     claims_reply chain_of_one setting 0 1 1 only_hash refl (omega arith) (omega arith) refl (omega arith) (omega arith)
     ∙ ap (λ (x : List ℕ). Cfheaders 0 only_hash (record { 0 = x }) (hashes_in (filters_in 0 1 chain_of_one)) ∷ []) (sym first_is ∙ ap (λ (h : Hash32). h.0) first_header_is)
-    ∙ ap (λ (x : List ℕ). Cfheaders 0 only_hash (record { 0 = genesis_filter_header }) (record { 0 = filter_hash_of x } ∷ []) ∷ []) filter_is
-    ∙ ap (λ (x : List ℕ). Cfheaders 0 only_hash (record { 0 = genesis_filter_header }) (record { 0 = x } ∷ []) ∷ []) only_filter_hash_is
+    ∙ ap (λ (x : List ℕ). Cfheaders 0 only_hash (record { 0 = its_first_filter_header }) (record { 0 = filter_hash_of x } ∷ []) ∷ []) filter_is
+    ∙ ap (λ (x : List ℕ). Cfheaders 0 only_hash (record { 0 = its_first_filter_header }) (record { 0 = x } ∷ []) ∷ []) only_filter_hash_is
 
 pub filter_answer : filters_said ≡ its_filter ∷ []
 filter_answer =
@@ -577,7 +577,7 @@ request_8 = ap (λ o. claims_asked 1 only_hash.0 o) back_only
 
 -- what it claims
 abbrev pub only_claim : Claim
-only_claim = claim_of (record { 0 = only_filter_hash }) (record { 0 = genesis_filter_header })
+only_claim = claim_of (record { 0 = only_filter_hash }) (record { 0 = its_first_filter_header })
 
 claims_9 : claims t_9 ≡ with_claim only_hash.0 only_claim no_claims
 claims_9 = ap (λ r. claims_after its_claims r no_claims) request_8 ∙ rw self_hash refl
@@ -588,11 +588,11 @@ claim_found = ap (λ (c : Table). c only_hash.0) claims_9 ∙ rw self_hash refl
 pub request_9 : request t_9 ≡ NothingOpen
 request_9 = ap (λ r. request_after its_claims r) request_8 ∙ rw self_hash refl
 
-pub first_same : same first_header.0 genesis_filter_header ≡ true
-first_same = same_from first_header.0 genesis_filter_header (ap (λ (h : Hash32). h.0) first_header_is)
+pub first_same : same first_filter_header.0 its_first_filter_header ≡ true
+first_same = same_from first_filter_header.0 its_first_filter_header (ap (λ (h : Hash32). h.0) first_header_is)
 
 pub claims_fine : fault_of its_claims t_8 ≡ None
-claims_fine = ap (λ r. claims_fault 0 only_hash.0 genesis_filter_header (record { 0 = only_filter_hash } ∷ []) r no_claims) request_8 ∙ rw (self_hash, same_self (block_hash_of genesis_header), first_same) refl
+claims_fine = ap (λ r. claims_fault 0 only_hash.0 its_first_filter_header (record { 0 = only_filter_hash } ∷ []) r no_claims) request_8 ∙ rw (self_hash, same_self (block_hash_of genesis_header), first_same) refl
 
 clean_9 : verdict t_9 ≡ None
 clean_9 = ap (λ x. first x (fault_of its_claims t_8)) clean_7 ∙ claims_fine

@@ -21,7 +21,7 @@ use Rattle.cf_peer.specs.Acts.{bytes_of, IsSendable}
 use Rattle.cf_peer.specs.Asking.{block_entry}
 use Rattle.cf_wires.specs.Log.{Log}
 use Rattle.cf_peer.specs.Trail.{Trail, Part, Said, Asked, item_of_read, part_after, heard_part, message_in, message_of_stream, spelled, asks, part_of, trail}
-use Rattle.cf_sync.specs.Example.{only_header, only_hash, our_version, its_version, false_version, question, its_headers, false_headers, fetch, its_block, only_filter, only_filter_hash, genesis_filter_header, ask_claims, its_claims, ask_filter, its_filter}
+use Rattle.cf_sync.specs.Example.{only_header, only_hash, our_version, its_version, false_version, question, its_headers, false_headers, fetch, its_block, only_filter, only_filter_hash, its_first_filter_header, ask_claims, its_claims, ask_filter, its_filter}
 use Rattle.cf_sync.proofs.Computed.{name_is, header_fits_type, block_length, block_fits, headers_size}
 
 -- ---- bytes as they are read
@@ -116,7 +116,7 @@ name_length = block_hash_length only_header
 
 pub claims_length : length (payload_of its_claims) ≡ 98
 unfolding payload_of compact
-claims_length = ap (λ (x : List ℕ). length (payload_of (Cfheaders 0 (record { 0 = x }) (record { 0 = genesis_filter_header }) (record { 0 = only_filter_hash } ∷ [])))) name_is
+claims_length = ap (λ (x : List ℕ). length (payload_of (Cfheaders 0 (record { 0 = x }) (record { 0 = its_first_filter_header }) (record { 0 = only_filter_hash } ∷ [])))) name_is
 
 pub filter_length : length (payload_of its_filter) ≡ 38
 unfolding payload_of compact

@@ -4,10 +4,10 @@ use Rattle.std.specs.Prelude.{◌≡◌, ◌≢◌, ◌⊎◌, ℕ, ◌≤◌, �
 use Rattle.cf_bytes.specs.declared.hash.Hash32.{Hash32}
 use Rattle.cf_block.specs.declared.header.Header.{Header}
 use Rattle.cf_block.specs.declared.tx.Block.{Block}
-use Rattle.cf_block.specs.Header.{block_hash_of, genesis_header}
+use Rattle.cf_block.specs.Header.{block_hash_of}
 use Rattle.cf_bytes.specs.Cut.{IsBytes}
 use Rattle.cf_filter.specs.Filter.{filter_hash_of}
-use Rattle.cf_headers.specs.Chain.{Hash, Chain, back_to, IsIn}
+use Rattle.cf_headers.specs.Chain.{Hash, Chain, back_to, IsIn, IsAbove}
 use Rattle.cf_headers.specs.Heights.{hash_at, common_of}
 use Rattle.cf_match.specs.declared.job.Job.{Job}
 use Rattle.cf_match.specs.Verdicts.{misses}
@@ -16,7 +16,7 @@ use Rattle.cf_msg.specs.declared.msg.Msg.{Msg}
 use Rattle.cf_msg.specs.declared.msg.Msg.TheVariants.{GetData, GetCfilters, Ping}
 use Rattle.cf_wires.specs.declared.event.Delivery.TheVariants.{Got, Gone, Tick, Ended}
 use Rattle.cf_wires.specs.declared.event.Event.{Event}
-use Rattle.cf_wires.specs.declared.event.Event.TheVariants.{Dialled, NotDialled, Sent, SendFailed, Closed, Took}
+use Rattle.cf_wires.specs.declared.event.Event.TheVariants.{Sent, Closed, Took}
 use Rattle.cf_peer.specs.declared.mode.Mode.{Mode}
 use Rattle.cf_peer.specs.declared.mode.Mode.TheVariants.{Once, Following}
 use Rattle.cf_peer.specs.declared.peer.Cause.{Cause}
@@ -51,8 +51,6 @@ IsBusy log = (p : ℕ) × (is_open (trail log p) ≡ true)
 abbrev pub AreBytes : Log → Type 0
 AreBytes [] = Unit {0}
 AreBytes (Took (Got p piece) ∷ log) = IsBytes piece × AreBytes log
-AreBytes (Took (Gone p) ∷ log) = AreBytes log
-AreBytes (Took (Tick s) ∷ log) = AreBytes log
 AreBytes (_ ∷ log) = AreBytes log
 
 -- ---- blocks
@@ -118,8 +116,6 @@ abbrev pub IsAnswered : (Log → ℕ → Hash → Type 0) → Log → Job → Ty
 IsAnswered way [] job = ⊥
 IsAnswered way (Took (Got q piece) ∷ log) job =
     (way log q.0 job.block.0 × IsNew (Took (Got q piece)) log q.0 job) ⊎ IsAnswered way log job
-IsAnswered way (Took (Gone q) ∷ log) job = IsAnswered way log job
-IsAnswered way (Took (Tick s) ∷ log) job = IsAnswered way log job
 IsAnswered way (_ ∷ log) job = IsAnswered way log job
 
 -- a filter was given: it came in a whole answer to a question that was put while its block wasn't fetched
@@ -151,14 +147,7 @@ IsCleared watch log block = IsJudged watch log block true
 -- the block is among what the peer had brought that said this piece
 abbrev pub IsBroughtBy : Event → Log → Block → Type 0
 IsBroughtBy (Took (Got q piece)) log b = IsIn b (fetched_blocks (counted_part (Took (Got q piece) ∷ log) q.0))
-IsBroughtBy (Took (Gone q)) log b = ⊥
-IsBroughtBy (Took (Tick s)) log b = ⊥
-IsBroughtBy (Took Ended) log b = ⊥
-IsBroughtBy (Dialled q name) log b = ⊥
-IsBroughtBy (NotDialled q name) log b = ⊥
-IsBroughtBy (Sent q bytes) log b = ⊥
-IsBroughtBy (SendFailed q) log b = ⊥
-IsBroughtBy (Closed q) log b = ⊥
+IsBroughtBy _ log b = ⊥
 
 -- of each peer the same blocks were fetched
 abbrev pub IsSameFetched : Log → Log → Type 0
@@ -167,14 +156,7 @@ IsSameFetched a b = (p : ℕ) → fetched_blocks (counted_part a p) ≡ fetched_
 -- an entry that brings no bytes of a peer
 abbrev pub IsNoPiece : Event → Type 0
 IsNoPiece (Took (Got q piece)) = ⊥
-IsNoPiece (Took (Gone q)) = Unit {0}
-IsNoPiece (Took (Tick s)) = Unit {0}
-IsNoPiece (Took Ended) = Unit {0}
-IsNoPiece (Dialled q name) = Unit {0}
-IsNoPiece (NotDialled q name) = Unit {0}
-IsNoPiece (Sent q bytes) = Unit {0}
-IsNoPiece (SendFailed q) = Unit {0}
-IsNoPiece (Closed q) = Unit {0}
+IsNoPiece _ = Unit {0}
 
 -- a block is settled where it was fetched, or cleared
 abbrev pub IsSettled : List (List ℕ) → Log → Hash → Type 0
@@ -355,10 +337,6 @@ pub record IsBest (log : Log) (chain : Chain) : Type 0 where
   pub longest : (p : ℕ) → IsConnected log p → length (own (counted_part log p)) ≤ length chain
   pub shown : ((p : ℕ) × (IsConnected log p × (own (counted_part log p) ≡ chain) × AreShorterBefore log chain p))
       ⊎ (((p : ℕ) → is_connected (trail log p) ≡ false) × (chain ≡ []))
-
--- it isn't genesis
-abbrev pub IsAbove : Hash → Type 0
-IsAbove block = block ≡ block_hash_of genesis_header → ⊥
 
 -- What the rule of asking leaves true of a connected peer with nothing open to it: of the blocks that its own chain shares with a chain, where one was fetched and
 -- they differ on its filter, what the peer claims of it was tested. (A block with genesis's hash would never be asked about. Where no hashes clash there is none.)

@@ -11,7 +11,7 @@ pub mod Claiming
 pub use Rattle.cf_tables.specs.Tables.{IsSameTable, placed_by, with_block, with_blocks}
 pub use Rattle.cf_tables.specs.Extracts.{table_in}
 pub use Rattle.cf_tables.specs.Judged.{AreKeptInPart, MoreVerdicts, verdicts_in}
-pub use Rattle.cf_tables.specs.Wanting.{AreClaimed, IsAbove, IsDone, IsKindAbove, IsToFetch, IsUnjudged}
+pub use Rattle.cf_tables.specs.Wanting.{AreClaimed, IsDone, IsKindAbove, IsToFetch, IsUnjudged}
 pub use Rattle.cf_tables.specs.Held.{CountsBlocks, CountsOutputs, CountsVerdicts}
 pub use Rattle.cf_tables.specs.Tests.{IsSameTold, told_in}
 pub use Rattle.cf_tables.specs.Outputs.{lacks_kept, Paid, put_outputs}

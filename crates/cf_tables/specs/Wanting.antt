@@ -1,20 +1,15 @@
 -- statement: what is still to be done about a block.
 use Rattle.std.specs.Prelude.{◌≡◌, ◌≢◌, ◌⊎◌, ℕ, ◌≤◌, Some, None, IsSome}
 use Rattle.cf_bytes.specs.declared.hash.Hash32.{Hash32}
-use Rattle.cf_block.specs.Header.{block_hash_of, genesis_header}
 use Rattle.cf_dispute.specs.declared.claim.At.TheVariants.{Nobody, One, Differ}
 use Rattle.cf_dispute.specs.Claims.{Tables, IsAt}
-use Rattle.cf_headers.specs.Chain.{Hash, Chain}
+use Rattle.cf_headers.specs.Chain.{Hash, Chain, IsAbove}
 use Rattle.cf_headers.specs.Heights.{hash_at}
 use Rattle.cf_match.specs.declared.job.Verdict.TheVariants.{Miss, Hit}
 use Rattle.cf_match.specs.Verdicts.{Verdicts}
 use Rattle.cf_tables.specs.declared.kind.BlockKind.{BlockKind}
 use Rattle.cf_tables.specs.declared.kind.BlockKind.TheVariants.{Unclaimed, Unjudged, ToFetch, Done}
 use Rattle.cf_tables.specs.Known.{ExtractTable}
-
--- a block's hash isn't genesis's
-abbrev pub IsAbove : Hash → Type 0
-IsAbove block = block ≡ block_hash_of genesis_header → ⊥
 
 -- by extracts, claims and verdicts a block is settled; its filter is to be asked for, of those who claim it; it is to be fetched
 abbrev pub IsDone : ExtractTable → Tables → Verdicts → Hash → Type 0

@@ -8,7 +8,8 @@ ghost use Rattle.cf_headers.specs.{IsIn};
 ghost use Rattle.cf_tables.specs.Extracts.{table_in};
 ghost use Rattle.cf_tables.specs.Judged.{verdicts_in};
 ghost use Rattle.cf_tables.specs.Known.{ExtractTable};
-ghost use Rattle.cf_tables.specs.Wanting.{IsAbove, IsDone, IsKind, IsKindAbove};
+ghost use Rattle.cf_tables.specs.Wanting.{IsDone, IsKind, IsKindAbove};
+ghost use Rattle.cf_headers.specs.Chain.{IsAbove};
 
 use crate::extracts::Extracts;
 use crate::first::First;

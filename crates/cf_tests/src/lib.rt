@@ -11,11 +11,11 @@ mod cf_conn_tests;
 #[cfg(test)]
 mod cf_index_tests;
 #[cfg(test)]
+mod cf_link_tests;
+#[cfg(test)]
 mod cf_parallel_tests;
 #[cfg(test)]
 mod cf_peer_tests;
-#[cfg(test)]
-mod cf_serve_tests;
 #[cfg(test)]
 mod cf_server_tests;
 #[cfg(test)]

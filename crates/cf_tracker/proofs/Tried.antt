@@ -1,6 +1,5 @@
 -- Up to the marks of tests nothing comes to be tested.
-use Rattle.std.proofs.Common.{◌≡◌, ◌≢◌, ◌⊎◌, inl, inr, ℕ, ◌+◌, ◌-◌, ◌<◌, ◌≤◌, min, max, Bool, true, false, List, [], ◌∷◌, length}
-use Rattle.std.proofs.Common.{replicate, reverse, Option, Some, None, refl, sym, ◌∙◌, ap, subst, arith}
+use Rattle.std.proofs.Common.{◌≡◌, ◌≢◌, ◌⊎◌, inl, inr, ℕ, ◌+◌, ◌-◌, ◌<◌, ◌≤◌, min, max, Bool, true, false, List, [], ◌∷◌, length, replicate, reverse, Option, Some, None, refl, sym, ◌∙◌, ap, subst, arith}
 use Rattle.std.proofs.Math.Logic.{∥∥₁_map}
 use Rattle.std.specs.Prelude.{◌&&◌, IsSome, Result, Ok, Err, OnOk, OnErr, unwrap_or, if◌then◌else◌, slice_set}
 use Rattle.std.proofs.lemmas.Grind.{common_steps, not_there}
@@ -14,8 +13,8 @@ use Rattle.cf_dispute.specs.declared.claim.At.TheVariants.{Differ}
 use Rattle.cf_dispute.specs.Claims.{Tables, IsAt, with_claims}
 use Rattle.cf_dispute.proofs.PutIn.{in_or_out}
 use Rattle.cf_headers.specs.declared.change.Change.{Change}
-use Rattle.cf_headers.specs.Changes.{link_height, change_of, chain_after}
-use Rattle.cf_headers.specs.Chain.{Hash, Chain, Accepted, Longer, NoLonger, Unlinked, Invalid, TooHigh, IsIn, accept, lower}
+use Rattle.cf_headers.specs.Changes.{link_height, change_of}
+use Rattle.cf_headers.specs.Chain.{chain_after, Hash, Chain, Accepted, Longer, NoLonger, Unlinked, Invalid, TooHigh, IsIn, accept, lower}
 use Rattle.cf_headers.specs.Heights.{hash_at}
 use Rattle.cf_headers.specs.Rules.{same}
 use Rattle.cf_headers.specs.Store.{Chains, own_of, Puts, Stays}

@@ -8,8 +8,8 @@ use Rattle.cf_bytes.specs.declared.peer.PeerNo.{PeerNo}
 use Rattle.cf_block.specs.declared.header.Header.{Header}
 use Rattle.cf_block.specs.Header.{block_hash_of}
 use Rattle.cf_headers.specs.declared.change.Change.{Change}
-use Rattle.cf_headers.specs.Changes.{link_height, change_of, chain_after}
-use Rattle.cf_headers.specs.Chain.{Hash, Chain, Accepted, Longer, NoLonger, Unlinked, Invalid, TooHigh, accept, lower}
+use Rattle.cf_headers.specs.Changes.{link_height, change_of}
+use Rattle.cf_headers.specs.Chain.{chain_after, Hash, Chain, Accepted, Longer, NoLonger, Unlinked, Invalid, TooHigh, accept, lower}
 use Rattle.cf_headers.specs.Heights.{hash_at, common_of}
 use Rattle.cf_headers.specs.Rules.{same}
 use Rattle.cf_headers.specs.Store.{Chains, own_of, Puts, Stays}

@@ -4,13 +4,13 @@ use Rattle.cf_bytes.specs.declared.peer.PeerNo.{PeerNo}
 use Rattle.cf_dispute.specs.Claims.{Tables}
 use Rattle.cf_headers.specs.declared.change.Change.{Change}
 use Rattle.cf_headers.specs.declared.change.Change.TheVariants.{Longer, NoLonger, Unlinked, Invalid, TooHigh}
-use Rattle.cf_headers.specs.Chain.{Hash, Chain}
+use Rattle.cf_headers.specs.Chain.{Hash, Chain, IsAbove}
 use Rattle.cf_headers.specs.Heights.{hash_at}
 use Rattle.cf_headers.specs.Store.{Chains, IsBest, own_of}
 use Rattle.cf_match.specs.Verdicts.{Verdicts}
 use Rattle.cf_tracker.specs.declared.account.Written.{Written}
 use Rattle.cf_tables.specs.Known.{ExtractTable}
-use Rattle.cf_tables.specs.Wanting.{IsAbove, IsDone}
+use Rattle.cf_tables.specs.Wanting.{IsDone}
 use Rattle.cf_tracker.specs.Written.{IsWrittenTo, IsWrittenTop, IsWrittenWhole}
 
 -- a block is settled, but for one with genesis's hash, of which nothing is to be known

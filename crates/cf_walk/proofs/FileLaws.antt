@@ -27,7 +27,7 @@ use Rattle.cf_chain.specs.Coins.{CoinMap, after_block}
 use Rattle.cf_chain.specs.Good.{AreGoodBlocks, IsGoodChain}
 use Rattle.cf_walk.specs.declared.cause.BadBlock.{BadBlock}
 use Rattle.cf_walk.specs.declared.cause.RecordCause.TheVariants.{Cut, Magic}
-use Rattle.cf_walk.specs.Records.{Taken, record_with, max_record, record_spelling, IsRecordOf, AreRecords, joined, HasRecords, cut_off, is_magic, magic_at, length_at, head_at, text_at, record_at}
+use Rattle.cf_walk.specs.Records.{Taken, record_with, max_record, record_spelling, IsRecordOf, AreRecords, records_text, HasRecords, cut_off, is_magic, magic_at, length_at, head_at, text_at, record_at}
 use Rattle.cf_walk.specs.Files.{HasFirst, HasGenesis, IsGoodFile, StopsAt, IsBadFile, IfBad, all_zeros, in_block, put_on, next_at, blocks_from, block_here, is_first, behind_first, after_genesis, blocks_after, blocks_at}
 use Rattle.cf_walk.specs.Progress.{HasRecord, IsRecordsOf}
 use Rattle.cf_walk.proofs.Growing.{MayStand, part_stands, no_cause}
@@ -69,16 +69,16 @@ next_again blocks b front rest is m =
 
 -- the blocks of a good chain are read, and then what stands after their records
 runs_to : (before : ℕ) (blocks bs : List Block) (records : List (List ℕ)) (rest : List ℕ) → AreRecords records bs → IsGoodChain (blocks ++ bs)
-    → blocks_from before zero blocks (joined records ++ rest) ≡ blocks_from before zero (blocks ++ bs) rest
+    → blocks_from before zero blocks (records_text records ++ rest) ≡ blocks_from before zero (blocks ++ bs) rest
 runs_to before blocks [] [] rest each g = ap (λ l. blocks_from before zero l rest) (sym (append-nil blocks))
 runs_to before blocks [] (r ∷ rs) rest each g = absurd each
 runs_to before blocks (b ∷ bs) [] rest each g = absurd each
 runs_to before blocks (b ∷ bs) (r ∷ rs) rest each g =
-    let others : List ℕ = joined rs ++ rest in
+    let others : List ℕ = records_text rs ++ rest in
     let all : List Block = blocks ++ b ∷ [] in
     let longer : all ++ bs ≡ blocks ++ (b ∷ bs) = append_assoc blocks (b ∷ []) bs in
     let has : HasRecord blocks all (r ++ others) others = record { block = b; added = refl; front = r; is = each.0; spelled = refl } in
-    ap (blocks_from before zero blocks) (append_assoc r (joined rs) rest)
+    ap (blocks_from before zero blocks) (append_assoc r (records_text rs) rest)
     ∙ one_more before blocks all (r ++ others) others (starts b r others each.0) (next_again blocks b r others each.0 (part_stands blocks b bs g)) has
     ∙ runs_to before all bs rs rest each.1 (subst IsGoodChain (sym longer) g)
     ∙ ap (λ l. blocks_from before zero l rest) longer
@@ -210,7 +210,7 @@ unfolding after_genesis block_here record_at head_at
 none_in_zeros zero = refl
 none_in_zeros (suc n) = none_at_zero (replicate n 0)
 
-not_genesis : (zeros : ℕ) (blocks : List Block) (records : List (List ℕ)) → AreRecords records blocks → IsGoodChain blocks → after_genesis (joined records ++ replicate zeros 0) ≡ None
+not_genesis : (zeros : ℕ) (blocks : List Block) (records : List (List ℕ)) → AreRecords records blocks → IsGoodChain blocks → after_genesis (records_text records ++ replicate zeros 0) ≡ None
 unfolding after_genesis
 not_genesis zeros [] [] each g = none_in_zeros zeros
 not_genesis _ [] (r ∷ rs) each g = absurd each
@@ -218,9 +218,9 @@ not_genesis _ (b ∷ bs) [] each g = absurd each
 not_genesis zeros (b ∷ bs) (r ∷ rs) each g =
     let m : MayStand [] b = part_stands [] b bs g in
     let is : IsRecordOf r b = each.0 in
-    let others : List ℕ = joined rs ++ replicate zeros 0 in
-    let whole : joined (r ∷ rs) ++ replicate zeros 0 ≡ record_with is.text ++ others =
-    append_assoc r (joined rs) (replicate zeros 0) ∙ ap (λ (l : List ℕ). l ++ others) is.spelled in
+    let others : List ℕ = records_text rs ++ replicate zeros 0 in
+    let whole : records_text (r ∷ rs) ++ replicate zeros 0 ≡ record_with is.text ++ others =
+    append_assoc r (records_text rs) (replicate zeros 0) ∙ ap (λ (l : List ℕ). l ++ others) is.spelled in
     ap (λ (l : List ℕ). behind_first (block_here l)) whole
     ∙ ap behind_first (here_again is.text others b is.short is.stored)
     ∙ ap (λ (x : Bool). if x then Some others else None) (other_block b m is.stored.block)
@@ -252,7 +252,7 @@ plain_each coins (b ∷ bs) g =
     let short : length (block_spelling b) ≤ max_record = omega (arith, g.0.spelled.short) in
     (record { text = block_spelling b; stored = plain_stored b g.0.spelled; short = short; spelled = refl }, plain_each (after_block coins b) bs g.1)
 
-each_joined : (f : Block → List ℕ) (blocks : List Block) → flat_map f blocks ≡ joined (map f blocks)
+each_joined : (f : Block → List ℕ) (blocks : List Block) → flat_map f blocks ≡ records_text (map f blocks)
 each_joined f [] = refl
 each_joined f (b ∷ bs) = ap (λ (l : List ℕ). f b ++ l) (each_joined f bs)
 
@@ -307,7 +307,7 @@ pub good_of : (text : Block → List ℕ) (blocks : List Block) → IsGoodChain 
 good_of text blocks g stored short =
     let f : Block → List ℕ = λ b. record_with (text b) in
     let records : List (List ℕ) = map f blocks in
-    let spelled : flat_map f blocks ≡ joined records ++ [] = each_joined f blocks ∙ sym (append-nil (joined records)) in
+    let spelled : flat_map f blocks ≡ records_text records ++ [] = each_joined f blocks ∙ sym (append-nil (records_text records)) in
     let has : HasRecords (flat_map f blocks) blocks [] =
     record { records = records; each = each_of text blocks stored short; spelled = spelled } in
     record { file = record { zeros = 0; spelled = inl has }; chain = g }

@@ -6,7 +6,7 @@ use Rattle.cf_bytes.specs.Cut.{◌>>=◌}
 use Rattle.cf_block.specs.declared.tx.Block.{Block}
 use Rattle.cf_block.specs.Stored.{stored_block_at}
 use Rattle.cf_walk.specs.declared.cause.RecordCause.{RecordCause}
-use Rattle.cf_walk.specs.Records.{Taken, record_with, IsRecordOf, AreRecords, joined, HasRecords, record_at}
+use Rattle.cf_walk.specs.Records.{Taken, record_with, IsRecordOf, AreRecords, records_text, HasRecords, record_at}
 use Rattle.cf_walk.specs.Files.{all_zeros, in_block, put_on, cause_on, next_at, numbered, blocks_from}
 use Rattle.cf_walk.specs.Progress.{HasRecord, IsRecordsOf}
 
@@ -86,9 +86,9 @@ each_more [] (x ∷ xs) r b each is = absurd each
 each_more (x ∷ xs) [] r b each is = absurd each
 each_more (x ∷ xs) (c ∷ cs) r b each is = (each.0, each_more xs cs r b each.1 is)
 
-joined_more : (records : List (List ℕ)) (r : List ℕ) → joined (records ++ r ∷ []) ≡ joined records ++ r
+joined_more : (records : List (List ℕ)) (r : List ℕ) → records_text (records ++ r ∷ []) ≡ records_text records ++ r
 joined_more [] r = append-nil r
-joined_more (x ∷ xs) r = ap (λ (l : List ℕ). x ++ l) (joined_more xs r) ∙ sym (append_assoc x (joined xs) r)
+joined_more (x ∷ xs) r = ap (λ (l : List ℕ). x ++ l) (joined_more xs r) ∙ sym (append_assoc x (records_text xs) r)
 
 pub spelled_more : (all bytes rest : List ℕ) (blocks more : List Block) → HasRecords all blocks bytes → HasRecord blocks more bytes rest → HasRecords all more rest
 spelled_more all bytes rest blocks more so_far has = record {
@@ -96,8 +96,8 @@ spelled_more all bytes rest blocks more so_far has = record {
   each = subst (AreRecords (so_far.records ++ has.front ∷ [])) (sym has.added) (each_more so_far.records blocks has.front has.block so_far.each has.is);
   spelled =
       so_far.spelled
-      ∙ ap (λ (l : List ℕ). joined so_far.records ++ l) has.spelled
-      ∙ sym (append_assoc (joined so_far.records) has.front rest)
+      ∙ ap (λ (l : List ℕ). records_text so_far.records ++ l) has.spelled
+      ∙ sym (append_assoc (records_text so_far.records) has.front rest)
       ∙ ap (λ (l : List ℕ). l ++ rest) (sym (joined_more so_far.records has.front));
 }
 

@@ -13,10 +13,10 @@ use Rattle.cf_block.specs.Commitment.{commit_fault}
 use Rattle.cf_block.proofs.Committed.{passes as committed_if, is_good as no_commit_fault}
 use Rattle.cf_headers.specs.declared.rules.HeaderFault.{HeaderFault}
 use Rattle.cf_headers.specs.Rules.{same, is_worked, is_within_target, is_timely, fault_after}
-use Rattle.cf_headers.specs.Chain.{Chain, tip_hash, past_of, fits, IsValidChain}
+use Rattle.cf_headers.specs.Chain.{Chain, tip_hash, past_of, fits, IsValidChain, height_limit}
 use Rattle.cf_headers.proofs.Judging.{fits_where, rule}
 use Rattle.cf_chain.specs.Coins.{CoinMap, after_block, coins_after}
-use Rattle.cf_chain.specs.Good.{max_height, IsGoodBlock, AreGoodBlocks, headers_of, IsGoodChain}
+use Rattle.cf_chain.specs.Good.{IsGoodBlock, AreGoodBlocks, headers_of, IsGoodChain}
 use Rattle.cf_coins.specs.declared.fault.CoinFault.{CoinFault}
 use Rattle.cf_walk.specs.declared.cause.RecordCause.{RecordCause}
 use Rattle.cf_walk.specs.declared.cause.RecordCause.TheVariants.{TooHigh}
@@ -84,11 +84,11 @@ coins_none : (r : Result CoinMap CoinFault) → in_coins r ≡ None → (new : C
 coins_none (Ok new) h = (new, refl)
 coins_none (Err f) h = cc
 
-low_by : (n : ℕ) (b : Bool) → nat_le max_height n ≡ b → (if b then Some TooHigh else None) ≡ None → n < max_height
+low_by : (n : ℕ) (b : Bool) → nat_le height_limit n ≡ b → (if b then Some TooHigh else None) ≡ None → n < height_limit
 low_by n true is h = cc
 low_by n false is h = grind (arith, nat_tests)
 
-high_by : (n : ℕ) → n < max_height → nat_le max_height n ≡ false
+high_by : (n : ℕ) → n < height_limit → nat_le height_limit n ≡ false
 high_by n lt = grind (arith, nat_tests)
 
 -- ---- together
@@ -102,7 +102,7 @@ good_more blocks b g spelled e =
     let new = coins_none (spend_txs (coins_after empty blocks) b.txs) three.1 in
     let txs = spent (coins_after empty blocks) new.0 b.txs new.1 in
     let fit : fits b.header (headers_of blocks) ≡ true = fits_where b.header (headers_of blocks) (header_none _ one.0) in
-    let low : length blocks < max_height = low_by (length blocks) (nat_le max_height (length blocks)) refl two.0 in
+    let low : length blocks < height_limit = low_by (length blocks) (nat_le height_limit (length blocks)) refl two.0 in
     let at : IsGoodBlock (coins_after empty blocks) b = record { spelled = spelled; committed = committed_if b (commit_none (commit_fault b) three.0); coinbase = txs.0; txs = txs.1 } in
     record {
       headers = subst IsValidChain (sym (headers_more blocks b)) (fit, g.headers);
@@ -113,7 +113,7 @@ good_more blocks b g spelled e =
 -- a block of a good chain may stand on those below it
 pub record MayStand (blocks : List Block) (b : Block) : Type 0 where
   pub fit : fits b.header (headers_of blocks) ≡ true
-  pub low : length blocks < max_height
+  pub low : length blocks < height_limit
   pub at : IsGoodBlock (coins_after empty blocks) b
 
 pub part_stands : (blocks : List Block) (b : Block) (bs : List Block) → IsGoodChain (blocks ++ b ∷ bs) → MayStand blocks b
@@ -125,7 +125,7 @@ part_stands blocks b bs g =
       at = blocks_part empty blocks b bs g.each;
     }
 
-none_by : (blocks : List Block) (b : Block) → fault_after (tip_hash (headers_of blocks)) (past_of (headers_of blocks)) b.header ≡ None → nat_le max_height (length blocks) ≡ false → commit_fault b ≡ None
+none_by : (blocks : List Block) (b : Block) → fault_after (tip_hash (headers_of blocks)) (past_of (headers_of blocks)) b.header ≡ None → nat_le height_limit (length blocks) ≡ false → commit_fault b ≡ None
     → (new : CoinMap) → spend_txs (coins_after empty blocks) b.txs ≡ Ok new → cause_on blocks b ≡ None
 unfolding cause_on
 none_by blocks b header height commit new coins =

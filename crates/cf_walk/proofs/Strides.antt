@@ -6,7 +6,7 @@ use Rattle.cf_block.specs.declared.tx.Block.{Block}
 use Rattle.cf_block.specs.Tx.{IsBlock}
 use Rattle.cf_conn.specs.Source.{with_front}
 use Rattle.cf_conn.specs.Window.{Pane, IsOver, beyond, seen}
-use Rattle.cf_chain.specs.Good.{max_height}
+use Rattle.cf_headers.specs.Chain.{height_limit}
 use Rattle.cf_walk.specs.declared.cause.BadBlock.{BadBlock}
 use Rattle.cf_walk.specs.declared.cause.RecordCause.{RecordCause}
 use Rattle.cf_walk.specs.declared.cause.RecordCause.TheVariants.{Cut}
@@ -181,7 +181,7 @@ gives_none bytes old before blocks way begun zeros none =
     (few, ap blocks_at (sym (all_count bytes few)) ∙ begun_end bytes old before blocks begun way ∙ ends old.before blocks way.rest zeros)
 
 pub gives_bad : (bytes : List ℕ) (old : Walk) (before : Option (List ℕ)) (blocks : List Block) (cause : RecordCause) (number : ℕ) (way : IsWalking bytes old before blocks) → old.begun ≡ true → all_zeros way.rest ≡ false
-    → next_by old.judge way.rest ≡ Err cause → (cause ≡ Cut → behind_them bytes ≡ []) → (old.before ≤ 1 → old.judge.height ≤ max_height → number ≡ suc (old.before + old.judge.height))
+    → next_by old.judge way.rest ≡ Err cause → (cause ≡ Cut → behind_them bytes ≡ []) → (old.before ≤ 1 → old.judge.height ≤ height_limit → number ≡ suc (old.before + old.judge.height))
     → (blocks_at (that_count bytes) ≡ Err (record { number = number; cause = cause })) × (cause ≡ Cut → length bytes ≤ most_blocks)
 gives_bad bytes old before blocks cause number way begun some e cut is =
     let up = is way.few (omega (arith, way.stands.height, way.stands.good.height)) in

@@ -1,17 +1,16 @@
 -- A step over a source.
 use Rattle.std.proofs.Common.{◌≡◌, ℕ, zero, suc, ◌≤◌, ◌+◌, ◌⊎◌, inl, inr, Bool, true, false, ◌&&◌, ◌==◌, List, [], ◌∷◌, ◌++◌, length, Option, Some, None, Result, Ok, Err, refl, sym, ◌∙◌, ap, subst, arith, le-ltb, length-append}
 use Rattle.std.specs.Prelude.{take, option_map, IfOk, IfSome, if◌then◌else◌, nat_le, nat_lt, drop, ◌-◌}
-use Rattle.cf_chain.specs.Good.{max_height}
+use Rattle.cf_headers.specs.Chain.{height_limit}
 use Rattle.std.proofs.lemmas.List.{append-nil, drop_at, drop_all}
 use Rattle.std.proofs.Math.Seq.{take-append-add}
-use Rattle.cf_bytes.specs.Cut.{◌>>=◌}
+use Rattle.cf_bytes.specs.Cut.{◌>>=◌, Read}
 use Rattle.cf_bytes.specs.declared.memory.Refused.{Refused}
 use Rattle.cf_bytes.specs.declared.memory.Refused.TheVariants.{No, NoMemory}
 use Rattle.cf_block.specs.declared.tx.Block.{Block}
 use Rattle.cf_block.specs.declared.commitment.CommitFault.{CommitFault}
 use Rattle.cf_block.specs.Commitment.{commit_fault}
 use Rattle.cf_block.specs.Stored.{stored_block_at}
-use Rattle.cf_bytes.specs.Cut.{Read}
 use Rattle.cf_bytes.specs.declared.cut.CutFault.TheVariants.{Short}
 use Rattle.cf_block.specs.declared.fault.BlockFault.{BlockFault}
 use Rattle.cf_headers.specs.declared.rules.HeaderFault.{HeaderFault}
@@ -57,7 +56,7 @@ coins_uncut (Err f) e = cc
 cause_uncut : (tip past : List ℕ) (height : ℕ) (coins : CoinMap) (b : Block) → cause_by tip past height coins b ≡ Some Cut → ⊥
 cause_uncut tip past height coins b =
     or_uncut (in_header (fault_after tip past b.header)) _ (header_uncut (fault_after tip past b.header))
-    (or_uncut (in_height height) _ (height_uncut (nat_le max_height height))
+    (or_uncut (in_height height) _ (height_uncut (nat_le height_limit height))
     (or_uncut (in_commitment (commit_fault b)) (in_coins (spend_txs coins b.txs)) (commit_uncut (commit_fault b)) (coins_uncut (spend_txs coins b.txs))))
 
 passed_cut : (c : RecordCause) (b : Block) (rest : List ℕ) → block_unless (Some c) b rest ≡ Err Cut → c ≡ Cut

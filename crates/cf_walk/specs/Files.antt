@@ -14,9 +14,9 @@ use Rattle.cf_block.specs.Tx.{block_spelling}
 use Rattle.cf_block.specs.Commitment.{commit_fault}
 use Rattle.cf_headers.specs.declared.rules.HeaderFault.{HeaderFault}
 use Rattle.cf_headers.specs.Rules.{fault_after}
-use Rattle.cf_headers.specs.Chain.{tip_hash, past_of}
+use Rattle.cf_headers.specs.Chain.{tip_hash, past_of, height_limit}
 use Rattle.cf_chain.specs.Coins.{CoinMap, coins_after}
-use Rattle.cf_chain.specs.Good.{IsGoodChain, headers_of, max_height}
+use Rattle.cf_chain.specs.Good.{IsGoodChain, headers_of}
 use Rattle.cf_coins.specs.declared.fault.CoinFault.{CoinFault}
 use Rattle.cf_walk.specs.declared.cause.RecordCause.{RecordCause}
 use Rattle.cf_walk.specs.declared.cause.RecordCause.TheVariants.{Block as InBlock, Header as InHeader, TooHigh, Commit, Coins as InCoins}
@@ -71,7 +71,7 @@ in_header (Some fault) = Some (InHeader fault)
 
 -- the fault of a block that stands above as many as a chain may have
 abbrev pub in_height : ℕ → Option RecordCause
-in_height height = if nat_le max_height height then Some TooHigh else None
+in_height height = if nat_le height_limit height then Some TooHigh else None
 
 -- the fault of a block whose header doesn't stand for its transactions, as its record's
 abbrev pub in_commitment : Option CommitFault → Option RecordCause

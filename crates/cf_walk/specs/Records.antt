@@ -39,14 +39,14 @@ AreRecords (r ∷ rs) [] = ⊥
 AreRecords (r ∷ rs) (b ∷ bs) = IsRecordOf r b × AreRecords rs bs
 
 -- records one after another
-abbrev pub joined : List (List ℕ) → List ℕ
-joined records = flat_map (λ bytes. bytes) records
+abbrev pub records_text : List (List ℕ) → List ℕ
+records_text records = flat_map (λ bytes. bytes) records
 
 -- the bytes are a record of each of these blocks, in order, and then the rest
 pub record HasRecords (bytes : List ℕ) (blocks : List Block) (rest : List ℕ) : Type 0 where
   pub records : List (List ℕ)
   pub each : AreRecords records blocks
-  pub spelled : bytes ≡ joined records ++ rest
+  pub spelled : bytes ≡ records_text records ++ rest
 
 -- ---- what reading a record gives: a value and the bytes after it, or why it is none
 

@@ -2,7 +2,8 @@
 ghost use Rattle.std.specs.Prelude.{◌≡◌, ◌<◌, IfOk, OnOk};
 ghost use Rattle.cf_block.specs.{IsBlock, AreTxids, commit_fault, block_hash_of};
 ghost use Rattle.cf_headers.specs.{fault_with};
-ghost use Rattle.cf_chain.specs.{after_block, prevouts, max_height};
+ghost use Rattle.cf_chain.specs.{after_block, prevouts};
+ghost use Rattle.cf_headers.specs.Chain.{height_limit};
 ghost use Rattle.cf_coins.specs.{spend_txs};
 ghost use Rattle.cf_walk.specs.Files.{cause_before_coins, in_header, in_height, in_commitment, in_coins};
 ghost use Rattle.cf_walk.specs.Progress.{FindsCause};
@@ -30,7 +31,7 @@ pub(crate) fn judge_header(
 
 pub(crate) fn judge_height(height: usize) -> Result<(), Refused<RecordCause>>
     ensures exact { FindsCause (in_height height) result }
-    ensures low { OnOk result (height < max_height) }
+    ensures low { OnOk result (height < height_limit) }
 {
     if height >= HEIGHT_LIMIT as usize {
         return Err(Refused::No(RecordCause::TooHigh));

@@ -2,7 +2,8 @@
 ghost use Rattle.std.specs.Prelude.{◌≡◌, ◌≤◌, ◌<◌, ◌+◌, ◌++◌, ◌∷◌, [], List, suc, OnOk, IfOk, IfSome};
 ghost use Rattle.cf_block.specs.{block_hash_of, IsBlock};
 ghost use Rattle.cf_block.specs.declared.tx.Block.{Block};
-ghost use Rattle.cf_chain.specs.{after_block, prevouts, max_height};
+ghost use Rattle.cf_chain.specs.{after_block, prevouts};
+ghost use Rattle.cf_headers.specs.Chain.{height_limit};
 ghost use Rattle.cf_walk.specs.Judging.{BeginsWith, StandsOn, Walks, after_by, cause_by, next_by, txids_of};
 ghost use Rattle.cf_walk.specs.Progress.{FindsCause};
 
@@ -58,7 +59,7 @@ fn judge_on(
     ensures coins { OnOk result (judge.new.coins ≡ after_block judge.old.coins block.now) }
     ensures txids { OnOk result (judge.new.txids ≡ txids_of block.now) }
     ensures spent { OnOk result (judge.new.spent ≡ prevouts judge.old.coins block.now) }
-    ensures low { OnOk result (judge.old.height < max_height) }
+    ensures low { OnOk result (judge.old.height < height_limit) }
     ensures tip { judge.new.tip ≡ judge.old.tip }
     ensures past { judge.new.past ≡ judge.old.past }
     ensures height { judge.new.height ≡ judge.old.height }
@@ -124,7 +125,7 @@ pub(crate) fn walk_on(
 
 // The number of the record of the block above this height, where so many records stand before those of the blocks.
 pub(crate) fn number_at(before: u32, height: usize) -> u32
-    ensures { before ≤ 1 → height ≤ max_height → result ≡ suc (before + height) }
+    ensures { before ≤ 1 → height ≤ height_limit → result ≡ suc (before + height) }
 {
     u32::try_from(height)
         .unwrap_or(u32::MAX)

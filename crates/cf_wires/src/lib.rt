@@ -9,4 +9,4 @@ mod wires;
 pub use event::{Delivery, Dial, Event, Mark, Name, Piece};
 pub use memory::{MemoryWires, Scripted};
 pub use session::{put_deliveries, put_dials};
-pub use wires::{MOST_PEERS, WireFail, Wires};
+pub use wires::{WireFail, Wires};

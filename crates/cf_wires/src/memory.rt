@@ -8,7 +8,7 @@ ghost use Rattle.cf_wires.specs.Dials.{WentAsMade, answered_at, calls_in, is_to_
 use crate::event::{Delivery, Dial, Event, Name, Piece};
 use crate::session::{put_deliveries, put_dials};
 use crate::wires::{WireFail, Wires};
-use cf_bytes::{NoMemory, PeerNo};
+use cf_bytes::{NoMemory, PLACES, PeerNo};
 use std::alloc::Global;
 
 /// What wires in memory are made to give.
@@ -37,7 +37,7 @@ pub struct MemoryWires {
     faults: u64,
     dials: u32,
     // Which peers were closed, by their numbers.
-    closed: [bool; 9],
+    closed: [bool; PLACES],
     log: Vec<Event>,
     // Whether the log is to be kept.
     keeps: bool,
@@ -60,8 +60,7 @@ pub struct MemoryWires {
 }
 
 impl MemoryWires {
-    ghost use Rattle.cf_wires.specs.Memory.{script_of, log_of, failing_of, calls_of, faults_of, keeps_of, finished_of};
-    ghost use Rattle.cf_wires.specs.Memory.{may_be_added, with_scripted, with_dial};
+    ghost use Rattle.cf_wires.specs.Memory.{script_of, log_of, failing_of, calls_of, faults_of, keeps_of, finished_of, may_be_added, with_scripted, with_dial};
 
     /// Wires that were made to give nothing: each dial fails.
     pub fn new(alloc: Global) -> Result<MemoryWires, NoMemory>
@@ -82,8 +81,8 @@ impl MemoryWires {
             calls: 0,
             faults: 0,
             dials: 0,
-            closed: [false; 9],
-            log: Vec::with_capacity(alloc, 9)?,
+            closed: [false; PLACES],
+            log: Vec::with_capacity(alloc, PLACES)?,
             keeps: false,
             finished: false,
         })

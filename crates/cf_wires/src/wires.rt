@@ -12,9 +12,6 @@ use cf_bytes::{NoMemory, PeerNo};
 use std::alloc::{AllocError, AllocFailed};
 use thiserror::Error;
 
-/// The most peers that a run dials. Their numbers are 1 to this.
-pub const MOST_PEERS: usize = 8;
-
 /// Why a peer was not dialled, or nothing was sent to it.
 #[derive(Clone, Copy, Debug, PartialEq, Eq, Error)]
 pub enum WireFail {

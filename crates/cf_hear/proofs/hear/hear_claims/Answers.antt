@@ -2,7 +2,7 @@ use Rattle.std.proofs.Common.{◌∷◌, Some, None, Err, refl, sym, ◌∙◌, 
 use Rattle.std.specs.Prelude.{length}
 use Rattle.cf_bytes.specs.declared.memory.Refused.{Refused}
 use Rattle.cf_dispute.specs.declared.claim.ClaimFault.{ClaimFault}
-use Rattle.cf_dispute.specs.Claims.{header_at, first_header}
+use Rattle.cf_dispute.specs.Claims.{header_at, first_filter_header}
 use Rattle.cf_dispute.specs.Tables.{GivesFault, blocks_of, claim_fault}
 use Rattle.cf_msg.specs.declared.msg.Msg.TheVariants.{Cfheaders}
 use Rattle.cf_peer.specs.declared.peer.Peer.{Peer}
@@ -34,7 +34,7 @@ returns-in-Ok-clause-heard g c = λ t holds f.
     let range = c.in-Some.range in
     let took = c.in-Some.ensures.took in
     let right = subst (λ (r : Request). IsRight r table) took.0.1 c.requires.right in
-    let none = same_fault (header_at first_header table range.parent.0) c.args.previous.now c.as_slice-blocks.result.now range.blocks c.args.hashes.now None c.as_slice-blocks.ensures c.in-Ok.ensures.answer in
+    let none = same_fault (header_at first_filter_header table range.parent.0) c.args.previous.now c.as_slice-blocks.result.now range.blocks c.args.hashes.now None c.as_slice-blocks.ensures c.in-Ok.ensures.answer in
     let after = claims_of c.add_claims.new.self c.args.p.0 in
     let takes = answer_holds c.args.peer.now range took.0.0 c.args.filter c.args.stop.now c.args.previous.now c.args.hashes.now t table after took.0.1 took.1 right.0 none
     (same_run c.args.previous.now c.as_slice-blocks.result.now range.blocks c.args.hashes.now table after c.as_slice-blocks.ensures c.in-Ok.ensures.ok) holds f.claims in
@@ -67,9 +67,9 @@ returns-in-Err-No-clause-heard g c = λ t holds f.
     let range = c.in-Some.range in
     let took = c.in-Some.ensures.took in
     let right = subst (λ (r : Request). IsRight r table) took.0.1 c.requires.right in
-    let fault = subst (λ (e : Refused ClaimFault). GivesFault {A = Unit {0}} (Err e) (claim_fault (header_at first_header table range.parent.0) (length c.as_slice-blocks.result.now) c.args.previous.now (length c.args.hashes.now))) c.in-Err-No.field-0-is c.in-Err-No.ensures.answer in
-    let is = same_fault (header_at first_header table range.parent.0) c.args.previous.now c.as_slice-blocks.result.now range.blocks c.args.hashes.now (Some c.in-Err-No.fault) c.as_slice-blocks.ensures fault in (
-      cause_is (verdict (Said (Cfheaders c.args.filter c.args.stop.now c.args.previous.now c.args.hashes.now) ∷ t)) (claim_fault (header_at first_header table range.parent.0) (length range.blocks) c.args.previous.now (length c.args.hashes.now))
+    let fault = subst (λ (e : Refused ClaimFault). GivesFault {A = Unit {0}} (Err e) (claim_fault (header_at first_filter_header table range.parent.0) (length c.as_slice-blocks.result.now) c.args.previous.now (length c.args.hashes.now))) c.in-Err-No.field-0-is c.in-Err-No.ensures.answer in
+    let is = same_fault (header_at first_filter_header table range.parent.0) c.args.previous.now c.as_slice-blocks.result.now range.blocks c.args.hashes.now (Some c.in-Err-No.fault) c.as_slice-blocks.ensures fault in (
+      cause_is (verdict (Said (Cfheaders c.args.filter c.args.stop.now c.args.previous.now c.args.hashes.now) ∷ t)) (claim_fault (header_at first_filter_header table range.parent.0) (length range.blocks) c.args.previous.now (length c.args.hashes.now))
           c.in-Err-No.fault c.cause_of.result
           (answer_fault c.args.peer.now range took.0.0 c.args.filter c.args.stop.now c.args.previous.now c.args.hashes.now t table took.0.1 took.1 right.0 holds f.claims) is (rw c.in-Err-No.field-0-is at c.cause_of.ensures),
       record {

@@ -1,6 +1,6 @@
 use Rattle.std.proofs.Common.{◌≡◌, ◌-◌, ℕ, List, Some}
 use Rattle.cf_conn.specs.Steps.{Steps}
-use Rattle.cf_chain.specs.Good.{max_height}
+use Rattle.cf_headers.specs.Chain.{height_limit}
 use Rattle.cf_walk.specs.Judging.{StandsOn}
 use Rattle.cf_walk.specs.Striding.{IsWalking}
 use Rattle.cf_index.proofs.source.read_source.Given as goal
@@ -14,4 +14,4 @@ invariant-loop-block g l = record {
 }
 
 abbrev pub decreases-loop-block : goal.decreases-loop-block
-decreases-loop-block g l = max_height - l.walk.judge.height
+decreases-loop-block g l = height_limit - l.walk.judge.height

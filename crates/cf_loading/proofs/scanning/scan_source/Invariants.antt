@@ -1,5 +1,5 @@
 use Rattle.std.proofs.Common.{◌≡◌, ◌-◌}
-use Rattle.cf_chain.specs.Good.{max_height}
+use Rattle.cf_headers.specs.Chain.{height_limit}
 use Rattle.cf_conn.specs.Steps.{Steps}
 use Rattle.cf_loading.specs.Scanning.{IsOnTheWay}
 use Rattle.cf_loading.proofs.scanning.scan_source.Given as goal
@@ -12,4 +12,4 @@ invariant-loop-block g l = record {
 }
 
 abbrev pub decreases-loop-block : goal.decreases-loop-block
-decreases-loop-block g l = max_height - l.walk.judge.height
+decreases-loop-block g l = height_limit - l.walk.judge.height
