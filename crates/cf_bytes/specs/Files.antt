@@ -58,8 +58,8 @@ SameElsewhere name None None = Unit {0}
 SameElsewhere name before after = ⊥
 
 -- what a call of files reads: of a name and the most bytes that are asked for, the answer, and what it leaves
-abbrev pub Reads : Type 0 → Type 1
-Reads F = F → List ℕ → ℕ → Result (Vec ℕ Global) FileFail → F → Type 0
+abbrev pub ReadsFile : Type 0 → Type 1
+ReadsFile F = F → List ℕ → ℕ → Result (Vec ℕ Global) FileFail → F → Type 0
 
 -- the same of an opening
 abbrev pub Opens : Type 0 → Type 1
@@ -70,25 +70,25 @@ abbrev pub Parts : Type 0 → Type 1
 Parts F = F → ℕ → Result ℕ Failed → F → Type 0
 
 -- the same of a write, of a name and its bytes
-abbrev pub Writes : Type 0 → Type 1
-Writes F = F → List ℕ → List ℕ → Result (Unit {0}) FileFail → F → Type 0
+abbrev pub WritesFile : Type 0 → Type 1
+WritesFile F = F → List ℕ → List ℕ → Result (Unit {0}) FileFail → F → Type 0
 
 -- the file of this name was read, by one call
-abbrev pub IsRead : {F : Type 0} → Reads F → List ℕ → F → F → Type 0
+abbrev pub IsRead : {F : Type 0} → ReadsFile F → List ℕ → F → F → Type 0
 IsRead reads name before after = (most : ℕ) × (result : Result (Vec ℕ Global) FileFail) × reads before name most result after
 
 -- the file of this name was written, by one call
-abbrev pub IsWritten : {F : Type 0} → Writes F → List ℕ → F → F → Type 0
+abbrev pub IsWritten : {F : Type 0} → WritesFile F → List ℕ → F → F → Type 0
 IsWritten writes name before after = (bytes : List ℕ) × (result : Result (Unit {0}) FileFail) × writes before name bytes result after
 
 -- of the files of these names the first ones were read, each once and in this order, and nothing else was asked of the files
-abbrev pub AreRead : {F : Type 0} → Reads F → List (List ℕ) → F → F → Type 0
+abbrev pub AreRead : {F : Type 0} → ReadsFile F → List (List ℕ) → F → F → Type 0
 AreRead reads [] before after = after ≡ before
 AreRead {F} reads (name ∷ names) before after =
     (after ≡ before) ⊎ ((between : F) × IsRead reads name before between × AreRead reads names between after)
 
 -- nothing was asked of the files, or this one file was written, by one call
-abbrev pub IsAtMostWritten : {F : Type 0} → Writes F → Option (List ℕ) → F → F → Type 0
+abbrev pub IsAtMostWritten : {F : Type 0} → WritesFile F → Option (List ℕ) → F → F → Type 0
 IsAtMostWritten writes None before after = after ≡ before
 IsAtMostWritten writes (Some name) before after = (after ≡ before) ⊎ IsWritten writes name before after
 

@@ -1,21 +1,21 @@
 -- What was asked of the files.
 use Rattle.std.proofs.Common.{inl, ℕ, List, [], ◌∷◌, Option, Some, None, refl}
-use Rattle.cf_bytes.specs.Files.{Reads, Opens, Parts, Writes, IsAtMostWritten}
+use Rattle.cf_bytes.specs.Files.{ReadsFile, Opens, Parts, WritesFile, IsAtMostWritten}
 use Rattle.cf_input.specs.declared.words.Command.{Command}
 use Rattle.cf_loading.specs.Asking.{FileRead, AreRead}
 use Rattle.cf_cli.specs.Asking.{AreAsked, files_read}
 
 -- no file was written
-pub unwritten : {F : Type 0} (writes : Writes F) (file : Option (List ℕ)) (files : F) → IsAtMostWritten writes file files files
+pub unwritten : {F : Type 0} (writes : WritesFile F) (file : Option (List ℕ)) (files : F) → IsAtMostWritten writes file files files
 unwritten writes None files = refl
 unwritten writes (Some name) files = inl refl
 
 -- no file was read
-unread : {F : Type 0} (reads : Reads F) (opens : Opens F) (parts : Parts F) (asked : List FileRead) (files : F) → AreRead reads opens parts asked files files
+unread : {F : Type 0} (reads : ReadsFile F) (opens : Opens F) (parts : Parts F) (asked : List FileRead) (files : F) → AreRead reads opens parts asked files files
 unread reads opens parts [] files = refl
 unread reads opens parts (file ∷ asked) files = inl refl
 
 -- nothing was asked
-pub unasked : {F : Type 0} (reads : Reads F) (opens : Opens F) (parts : Parts F) (writes : Writes F) (found : Option Command) (files : F) → AreAsked reads opens parts writes found files files
+pub unasked : {F : Type 0} (reads : ReadsFile F) (opens : Opens F) (parts : Parts F) (writes : WritesFile F) (found : Option Command) (files : F) → AreAsked reads opens parts writes found files files
 unasked reads opens parts writes None files = refl
 unasked reads opens parts writes (Some command) files = (files, unread reads opens parts (files_read command) files, unwritten writes _ files)

@@ -14,7 +14,7 @@ use Rattle.cf_run.specs.Whole.{EndsWithin, IsOutcome}
 use Rattle.cf_sync.specs.Fetching.{Rule}
 use Rattle.cf_wires.specs.declared.event.Dial.{Dial}
 use Rattle.cf_wires.specs.Log.{Log, Told}
-use Rattle.cf_wires.specs.Wires.{Script}
+use Rattle.cf_wires.specs.Wires.{WireScript}
 use Rattle.cf_input.specs.SessionFile.{session_of}
 use Rattle.cf_input.specs.declared.session.SessionFault.{SessionFault}
 use Rattle.cf_input.specs.declared.words.Command.{Command}
@@ -89,11 +89,11 @@ over_failed status other recorded names now before after not begun are = record 
 }
 
 -- a session that was read has so many dials
-read_dials : (r : Result Script SessionFault) (script : Script) (dialled : ℕ) → r ≡ Ok script → dials_read r dialled ≡ length script.dials
-read_dials r script dialled e = ap (λ (x : Result Script SessionFault). dials_read x dialled) e
+read_dials : (r : Result WireScript SessionFault) (script : WireScript) (dialled : ℕ) → r ≡ Ok script → dials_read r dialled ≡ length script.dials
+read_dials r script dialled e = ap (λ (x : Result WireScript SessionFault). dials_read x dialled) e
 
 -- and so has its file, where the files tell; else so many as were dialled
-told_dials : (o : Option Named) (name : List ℕ) (script : Script) (dialled : ℕ)
+told_dials : (o : Option Named) (name : List ℕ) (script : WireScript) (dialled : ℕ)
     → IfSome o (λ m. IfSome (finite.get m name) (λ bytes. session_of bytes ≡ Ok script)) → dialled ≡ length script.dials → dials_in o name dialled ≡ length script.dials
 told_dials None name script dialled read all = all
 told_dials (Some m) name script dialled read all = held_dials (finite.get m name) read where
@@ -102,7 +102,7 @@ told_dials (Some m) name script dialled read all = held_dials (finite.get m name
   held_dials (Some bytes) h = read_dials (session_of bytes) script dialled h
 
 -- a run over a tape that was loaded with the session of this file
-pub ends_played : (o p : Option Named) (name : List ℕ) (status : Status) (names : List (List ℕ)) (script : Script) (now : Told)
+pub ends_played : (o p : Option Named) (name : List ℕ) (status : Status) (names : List (List ℕ)) (script : WireScript) (now : Told)
     (before after : List PeerEnd) → IfSome o (λ m. IfSome (finite.get m name) (λ bytes. session_of bytes ≡ Ok script)) → o ≡ p
     → names ≡ map (λ (d : Dial). d.name) script.dials
     → AreEndsAfter status false (length names) now before after

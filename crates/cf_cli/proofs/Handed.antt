@@ -3,7 +3,7 @@ use Rattle.std.proofs.Common.{◌≡◌, ◌≢◌, inr, ℕ, ℤ, Bool, true, f
 use Rattle.std.specs.Prelude.{not, is_some, IfSome}
 use Rattle.std.specs.FinMap as finite
 use Rattle.std.proofs.lemmas.Bool.{both_ways}
-use Rattle.cf_bytes.specs.Files.{Named, Reads, Opens, Parts, Writes, IsRead, IsAtMostWritten}
+use Rattle.cf_bytes.specs.Files.{Named, ReadsFile, Opens, Parts, WritesFile, IsRead, IsAtMostWritten}
 use Rattle.cf_bytes.specs.Outside.{HasRisen}
 use Rattle.cf_place.specs.Standing.{Greeting}
 use Rattle.cf_run.specs.Run.{HasDialled, HasFailed}
@@ -37,7 +37,7 @@ is_not P status other known none = λ is. none (subst P is known)
 -- ---- it stays
 
 -- files of which nothing is asked
-pub files_stay : {F : Type 0} {files : F → Option Named} {faults : F → ℕ} {reads : Reads F} {opens : Opens F} {parts : Parts F} {writes : Writes F}
+pub files_stay : {F : Type 0} {files : F → Option Named} {faults : F → ℕ} {reads : ReadsFile F} {opens : Opens F} {parts : Parts F} {writes : WritesFile F}
     {command : Option Command} {status : Status} {f : F} → status ≢ FileFault → UsesFiles files faults reads opens parts writes command status f f
 files_stay {F} {files} {faults} {reads} {opens} {parts} {writes} {command} {status} {f} well = record {
   unchanged = λ off. refl;
@@ -66,7 +66,7 @@ tape_stays {moment} {nonce} {command} {status} {tape} new = record {
 -- ---- `sync` and `follow`
 
 -- files of a run that wasn't begun, since the watch file is answered for or memory is wanting
-pub unrun_files : {F : Type 0} {files : F → Option Named} {faults : F → ℕ} {reads : Reads F} {opens : Opens F} {parts : Parts F} {writes : Writes F}
+pub unrun_files : {F : Type 0} {files : F → Option Named} {faults : F → ℕ} {reads : ReadsFile F} {opens : Opens F} {parts : Parts F} {writes : WritesFile F}
     {watch : List ℕ} {file : Option (List ℕ)} {log : Option Log} {status : Status} {before after : F}
     → IfSome (files before) (λ m. IsJudged (watch_verdict (finite.get m watch)) status) → IsOfFile status → files after ≡ files before
     → (status ≡ FileFault → HasRisen (faults before) (faults after)) → (status ≢ FileFault → faults after ≡ faults before) → IsRead reads watch before after
@@ -80,7 +80,7 @@ unrun_files {F} {files} {faults} {reads} {opens} {parts} {writes} {watch} {file}
 }
 
 -- files of a run over a good watch file
-pub run_files : {F : Type 0} {files : F → Option Named} {faults : F → ℕ} {reads : Reads F} {opens : Opens F} {parts : Parts F} {writes : Writes F}
+pub run_files : {F : Type 0} {files : F → Option Named} {faults : F → ℕ} {reads : ReadsFile F} {opens : Opens F} {parts : Parts F} {writes : WritesFile F}
     {watch : List ℕ} {file : Option (List ℕ)} {log : Option Log} {status : Status} {before after : F} (between : F)
     → IfSome (files before) (λ m. watch_verdict (finite.get m watch) ≡ Good) → files between ≡ files before → faults between ≡ faults before → IsRead reads watch before between
     → was_unbegun status (is_some file) ≡ false → IsAtMostWritten writes file between after → Records status file log (files between) (files after)
@@ -131,7 +131,7 @@ dialled_wires {W} {told} {keeps} {faults} {z} {y} {nonce} {names} {recorded} {co
 
 -- ---- told of the words, at the same moment
 
-pub files_so : {F : Type 0} {files : F → Option Named} {faults : F → ℕ} {reads : Reads F} {opens : Opens F} {parts : Parts F} {writes : Writes F}
+pub files_so : {F : Type 0} {files : F → Option Named} {faults : F → ℕ} {reads : ReadsFile F} {opens : Opens F} {parts : Parts F} {writes : WritesFile F}
     {found : Option Command} {command : Command} {status : Status} {before after : F} → found ≡ Some command
     → UsesFiles files faults reads opens parts writes (Some command) status before after → UsesFiles files faults reads opens parts writes found status before after
 files_so {F} {files} {faults} {reads} {opens} {parts} {writes} {found} {command} {status} {before} {after} is =

@@ -22,7 +22,7 @@ use Rattle.cf_wires.specs.declared.memory.MemoryWires.{MemoryWires}
 use Rattle.cf_wires.specs.Dials.{answered_at, goes_as_made}
 use Rattle.cf_wires.specs.Log.{Log, Told, Tells, Tally, tally_of, dials}
 use Rattle.cf_wires.specs.Memory.{script_of, log_of, failing_of, finished_of, told_of}
-use Rattle.cf_wires.specs.Wires.{Script, Made}
+use Rattle.cf_wires.specs.Wires.{WireScript, Made}
 use Rattle.cf_input.specs.declared.session.SessionFault.{SessionFault}
 use Rattle.cf_answers.specs.declared.status.Status.{Status}
 use Rattle.cf_answers.specs.declared.status.Status.TheVariants.{Done, NoMemory, Usage, BadFile, FileFault, OutFault, NoPeers, Tired, Ended, LinkFault, NoNonce, NoHeight, NotThere, NotAddress}
@@ -78,14 +78,14 @@ first_dials (x ∷ xs) (y ∷ ys) (suc n) names alike =
     let one : x ≡ y = dial_same x y heads here in
     λ i. one i ∷ more i
 
-abbrev pub made : Script → List ℕ → Made
+abbrev pub made : WireScript → List ℕ → Made
 made script failing = record { script = script; failing = failing }
 
 some_same : (a b : Made) → Some a ≡ Some b → a ≡ b
 some_same a b e = cc
 
 -- the log of a tape that plays this script
-plays_of : (status : Status) (names : List (List ℕ)) (script : Script) (tape : MemoryWires)
+plays_of : (status : Status) (names : List (List ℕ)) (script : WireScript) (tape : MemoryWires)
     → Some (made (script_of tape) (failing_of tape)) ≡ Some (made script []) → names ≡ map (λ (d : Dial). d.name) script.dials → HasDialled names (told_of tape)
     → (has_run status ≡ true → IsWhole (length names) (told_of tape)) → Plays status script (log_of tape)
 plays_of status names script tape is_made named dialled whole =
@@ -94,22 +94,22 @@ plays_of status names script tape is_made named dialled whole =
     let unfailing : failing_of tape ≡ [] = ap (λ (m : Made). m.failing) same in
     let n = (tally_of (log_of tape)).dials in
     let went : (i : ℕ) → i < length (dials (log_of tape)) → answered_at (dials (log_of tape)) i ≡ answered_at script.dials i =
-    λ i lt. tape.went unfailing i lt ∙ ap (λ (s : Script). answered_at s.dials i) mine in
+    λ i lt. tape.went unfailing i lt ∙ ap (λ (s : WireScript). answered_at s.dials i) mine in
     let first : dials (log_of tape) ≡ take n script.dials = first_dials (dials (log_of tape)) script.dials n (dialled.first ∙ ap (take n) named) went in
     record {
       dialled = (n, first);
-      given = (tape.at, tape.played ∙ ap (λ (s : Script). take tape.at s.deliveries) mine);
+      given = (tape.at, tape.played ∙ ap (λ (s : WireScript). take tape.at s.deliveries) mine);
       all = λ is. first ∙ ap (λ (k : ℕ). take k script.dials) ((whole is).dialled ∙ ap length named ∙ length-map script.dials (λ (d : Dial). d.name)) ∙ take_all (length script.dials) script.dials (omega arith);
       whole = λ over.
           let all = tape.spent over in
-          tape.played ∙ ap (λ (k : ℕ). take k tape.script.items) all ∙ whole_of tape ∙ ap (λ (s : Script). s.deliveries) mine;
+          tape.played ∙ ap (λ (k : ℕ). take k tape.script.items) all ∙ whole_of tape ∙ ap (λ (s : WireScript). s.deliveries) mine;
       went = subst (λ (m : Made). goes_as_made m (log_of tape) ≡ true) same tape.made;
     } where
       whole_of : (tape : MemoryWires) → take (vec_len tape.script) tape.script.items ≡ tape.script.items
       whole_of tape = let ok = tape.script.ok.0 in take_all (vec_len tape.script) tape.script.items (omega (arith, ok))
 
 -- where nothing has passed, nothing is amiss
-nothing_plays : (status : Status) (script : Script) → has_run status ≡ false → Plays status script []
+nothing_plays : (status : Status) (script : WireScript) → has_run status ≡ false → Plays status script []
 nothing_plays status script off = record {
   dialled = (0, refl);
   given = (0, refl);
@@ -118,7 +118,7 @@ nothing_plays status script off = record {
   went = refl;
 }
 
-early_session : (status : Status) (r : Result Script SessionFault) (log : Log) → has_run status ≡ false → log ≡ [] → PlaysSession status r log
+early_session : (status : Status) (r : Result WireScript SessionFault) (log : Log) → has_run status ≡ false → log ≡ [] → PlaysSession status r log
 early_session status (Ok script) log off none = subst (λ (l : Log). Plays status script l) (sym none) (nothing_plays status script off)
 early_session status (Err fault) log off none = none
 
@@ -130,15 +130,15 @@ early_plays (Some m) name status log is none = by (finite.get m name) where
   by None = tt
   by (Some bytes) = early_session status (session_of bytes) log (no_run status is) none
 
-plays_by : (status : Status) (r : Result Script SessionFault) (script : Script) (log : Log) → r ≡ Ok script → Plays status script log → PlaysSession status r log
-plays_by status r script log e plays = subst (λ (x : Result Script SessionFault). PlaysSession status x log) (sym e) plays
+plays_by : (status : Status) (r : Result WireScript SessionFault) (script : WireScript) (log : Log) → r ≡ Ok script → Plays status script log → PlaysSession status r log
+plays_by status r script log e plays = subst (λ (x : Result WireScript SessionFault). PlaysSession status x log) (sym e) plays
 
 -- what is told stays the same file
-pub told_so : (o p : Option Named) (name : List ℕ) (script : Script) → o ≡ p → IfSome o (λ m. IfSome (finite.get m name) (λ bytes. session_of bytes ≡ Ok script))
+pub told_so : (o p : Option Named) (name : List ℕ) (script : WireScript) → o ≡ p → IfSome o (λ m. IfSome (finite.get m name) (λ bytes. session_of bytes ≡ Ok script))
     → IfSome p (λ m. IfSome (finite.get m name) (λ bytes. session_of bytes ≡ Ok script))
 told_so o p name script same h = subst (λ (x : Option Named). IfSome x (λ m. IfSome (finite.get m name) (λ bytes. session_of bytes ≡ Ok script))) same h
 
-told_plays : (o : Option Named) (name : List ℕ) (status : Status) (script : Script) (log : Log)
+told_plays : (o : Option Named) (name : List ℕ) (status : Status) (script : WireScript) (log : Log)
     → IfSome o (λ m. IfSome (finite.get m name) (λ bytes. session_of bytes ≡ Ok script)) → Plays status script log
     → IfSome o (λ m. IfSome (finite.get m name) (λ bytes. PlaysSession status (session_of bytes) log))
 told_plays None name status script log read plays = tt
@@ -148,14 +148,14 @@ told_plays (Some m) name status script log read plays = held_plays (finite.get m
   held_plays (Some bytes) h = plays_by status (session_of bytes) script log h plays
 
 -- a run over a tape that was loaded with the session of this file
-pub loaded_plays : (o p : Option Named) (name : List ℕ) (status : Status) (names : List (List ℕ)) (script : Script) (loaded tape : MemoryWires)
+pub loaded_plays : (o p : Option Named) (name : List ℕ) (status : Status) (names : List (List ℕ)) (script : WireScript) (loaded tape : MemoryWires)
     → IfSome o (λ m. IfSome (finite.get m name) (λ bytes. session_of bytes ≡ Ok script)) → o ≡ p
     → Some (made (script_of tape) (failing_of tape)) ≡ Some (made (script_of loaded) (failing_of loaded)) → script_of loaded ≡ script → failing_of loaded ≡ []
     → names ≡ map (λ (d : Dial). d.name) script.dials → HasDialled names (told_of tape) → (has_run status ≡ true → IsWhole (length names) (told_of tape))
     → IfSome p (λ m. IfSome (finite.get m name) (λ bytes. PlaysSession status (session_of bytes) (log_of tape)))
 loaded_plays o p name status names script loaded tape read same stays is none named dialled whole =
     told_plays p name status script (log_of tape) (told_so o p name script same read)
-    (plays_of status names script tape (stays ∙ ap Some (ap (λ (x : Script). made x (failing_of loaded)) is ∙ ap (made script) none)) named dialled whole)
+    (plays_of status names script tape (stays ∙ ap Some (ap (λ (x : WireScript). made x (failing_of loaded)) is ∙ ap (made script) none)) named dialled whole)
 
 -- where no run is made nothing has passed, and nobody is honest
 early_kept : (status : Status) (recorded trace : Bool) (scripts names : List (List ℕ)) (b : Option (List ℕ)) (log : Log) → has_run status ≡ false → log ≡ [] → KeptOnce status recorded trace scripts names b b log

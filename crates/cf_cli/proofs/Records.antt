@@ -7,7 +7,7 @@ use Rattle.cf_bytes.specs.Files.{Named, SameElsewhere}
 use Rattle.cf_wires.specs.Log.{Log}
 use Rattle.cf_answers.specs.declared.status.Status.{Status}
 use Rattle.cf_answers.specs.declared.status.Status.TheVariants.{Done, NoMemory, Usage, BadFile, FileFault, OutFault, NoPeers, Tired, Ended, LinkFault, NoNonce, NoHeight, NotThere, NotAddress}
-use Rattle.cf_loading.specs.Verdicts.{IsJudged, IsOfFile, Verdict, Good, watch_verdict}
+use Rattle.cf_loading.specs.Verdicts.{IsJudged, IsOfFile, FileVerdict, Good, watch_verdict}
 use Rattle.cf_answers.specs.Statuses.{was_refused, was_unbegun}
 use Rattle.cf_cli.specs.Recording.{HasRecord, KeepsOthers, Records}
 use Rattle.cf_cli.specs.Theorem.{IsOfRun}
@@ -104,4 +104,4 @@ good_judged (NotAddress cause) recorded begun = tt
 pub judged_once_begun : (files : Option Named) (watch : List ℕ) (status : Status) (recorded : Bool) → IfSome files (λ m. watch_verdict (finite.get m watch) ≡ Good) → was_unbegun status recorded ≡ false
     → IfSome files (λ m. IsJudged (watch_verdict (finite.get m watch)) status)
 judged_once_begun None watch status recorded good begun = tt
-judged_once_begun (Some m) watch status recorded good begun = subst (λ (v : Verdict). IsJudged v status) (sym good) (good_judged status recorded begun)
+judged_once_begun (Some m) watch status recorded good begun = subst (λ (v : FileVerdict). IsJudged v status) (sym good) (good_judged status recorded begun)

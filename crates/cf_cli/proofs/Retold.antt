@@ -14,7 +14,7 @@ use Rattle.cf_wires.specs.declared.event.Dial.{Dial}
 use Rattle.cf_wires.specs.declared.event.Event.TheVariants.{Dialled, NotDialled, Sent, SendFailed, Closed, Took}
 use Rattle.cf_wires.specs.Log.{Log, dials}
 use Rattle.cf_wires.specs.Session.{dial_word, dial_line, delivery_line, delivery_lines, gone_line, session_text}
-use Rattle.cf_wires.specs.Wires.{Script}
+use Rattle.cf_wires.specs.Wires.{WireScript}
 use Rattle.cf_input.specs.Lines.{lines_of, read_lines, bytes_of_hex}
 use Rattle.cf_input.specs.LineLaws.{IsLine, AreLines, ended}
 use Rattle.cf_input.specs.Name.{is_name, is_printable}
@@ -189,12 +189,12 @@ delivery_again peers Ended few is = absurd is
 
 -- ---- all lines
 
-abbrev script : List Dial → List Delivery → Script
+abbrev script : List Dial → List Delivery → WireScript
 script ds es = record { dials = ds; deliveries = es }
 
-read_on : (before after : Script) (line : List ℕ) (lines : List (List ℕ)) → line_after before line ≡ Ok after → read_lines line_after before (line ∷ lines) ≡ read_lines line_after after lines
+read_on : (before after : WireScript) (line : List ℕ) (lines : List (List ℕ)) → line_after before line ≡ Ok after → read_lines line_after before (line ∷ lines) ≡ read_lines line_after after lines
 unfolding read_lines
-read_on before after line lines e = ap (λ (r : Result Script SessionFault). r >>= λ next. read_lines line_after next lines) e
+read_on before after line lines e = ap (λ (r : Result WireScript SessionFault). r >>= λ next. read_lines line_after next lines) e
 
 isnt_full : (n : ℕ) → n < 8 → nat_le 8 n ≡ false
 isnt_full n lt = by (nat_le 8 n) refl where
@@ -226,7 +226,7 @@ read_deliveries : (d : Dial) (ds : List Dial) (done more : List Delivery) → le
     → read_lines line_after (script (d ∷ ds) done) (map row_of more) ≡ Ok (script (d ∷ ds) (done ++ more))
 unfolding read_lines
 read_deliveries d ds done [] few are = none (script (d ∷ ds) done) ∙ ap (λ (x : List Delivery). Ok (script (d ∷ ds) x)) (sym (append-nil done)) where
-  none : (s : Script) → read_lines line_after s [] ≡ Ok s
+  none : (s : WireScript) → read_lines line_after s [] ≡ Ok s
   none s = refl
 read_deliveries d ds done (e ∷ more) few are =
     read_on (script (d ∷ ds) done) (script (d ∷ ds) (done ++ e ∷ [])) (row_of e) (map row_of more) (delivery_step d ds done e few are.0)
@@ -236,7 +236,7 @@ read_all : (ds : List Dial) (es : List Delivery) → 0 < length ds → length ds
     → (read_lines line_after (script [] []) (map dial_row ds ++ map row_of es) >>= dialled) ≡ Ok (script ds es)
 read_all [] es some few names are = absurd (omega (arith, some))
 read_all (d ∷ ds) es some few names are =
-    ap (λ (r : Result Script SessionFault). r >>= dialled) (read_dials [] (d ∷ ds) (map row_of es) (omega (arith, few)) names ∙ read_deliveries d ds [] es few are)
+    ap (λ (r : Result WireScript SessionFault). r >>= dialled) (read_dials [] (d ∷ ds) (map row_of es) (omega (arith, few)) names ∙ read_deliveries d ds [] es few are)
 
 pub retold : (log : Log) → IsRetold log → session_of (session_text log) ≡ Ok (told_script log)
 retold log is =

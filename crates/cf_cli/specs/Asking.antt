@@ -1,6 +1,6 @@
 -- statement: which files a command asks for.
 use Rattle.std.specs.Prelude.{◌≡◌, ℕ, List, [], ◌∷◌, Option, Some, None}
-use Rattle.cf_bytes.specs.Files.{Reads, Opens, Parts, Writes, IsAtMostWritten}
+use Rattle.cf_bytes.specs.Files.{ReadsFile, Opens, Parts, WritesFile, IsAtMostWritten}
 use Rattle.cf_input.specs.declared.words.Command.{Command}
 use Rattle.cf_input.specs.declared.words.Command.TheVariants.{Replay, Sync, Follow, Scan, Filter, Address, Prove, Check, Serve, Make, Demo}
 use Rattle.cf_loading.specs.Asking.{FileRead, Whole, ByParts, AreRead}
@@ -28,12 +28,12 @@ name_written command = None
 
 -- of these files the first ones were read, each once and in this order, and then at most this one was written, once;
 -- nothing else was asked
-abbrev pub AsksFor : {F : Type 0} → Reads F → Opens F → Parts F → Writes F → List FileRead → Option (List ℕ) → F → F → Type 0
+abbrev pub AsksFor : {F : Type 0} → ReadsFile F → Opens F → Parts F → WritesFile F → List FileRead → Option (List ℕ) → F → F → Type 0
 AsksFor {F} reads opens parts writes files written before after =
     (between : F) × AreRead reads opens parts files before between × IsAtMostWritten writes written between after
 
 -- what a command asks of the files; where the words ask for nothing, nothing is asked of them
-abbrev pub AreAsked : {F : Type 0} → Reads F → Opens F → Parts F → Writes F → Option Command → F → F → Type 0
+abbrev pub AreAsked : {F : Type 0} → ReadsFile F → Opens F → Parts F → WritesFile F → Option Command → F → F → Type 0
 AreAsked reads opens parts writes None before after = after ≡ before
 AreAsked reads opens parts writes (Some command) before after =
     AsksFor reads opens parts writes (files_read command) (name_written command) before after

@@ -5,7 +5,7 @@ use Rattle.cf_bytes.specs.Files.{Named}
 use Rattle.cf_place.specs.declared.place.PeerEnd.{PeerEnd}
 use Rattle.cf_place.specs.Standing.{EndsTell}
 use Rattle.cf_wires.specs.Log.{Log, Told}
-use Rattle.cf_wires.specs.Wires.{Script}
+use Rattle.cf_wires.specs.Wires.{WireScript}
 use Rattle.cf_input.specs.declared.session.SessionFault.{SessionFault}
 use Rattle.cf_input.specs.declared.words.Command.{Command}
 use Rattle.cf_input.specs.declared.words.Command.TheVariants.{Replay, Sync, Follow}
@@ -39,7 +39,7 @@ abbrev pub AreEndsOver : Status → Bool → ℕ → Told → List PeerEnd → L
 AreEndsOver status recorded names now before after = AreEndsOnce (is_over status) status recorded names now before after
 
 -- how many peers a session dials, as it was read; of one that is refused, so many as were dialled
-abbrev pub dials_read : Result Script SessionFault → ℕ → ℕ
+abbrev pub dials_read : Result WireScript SessionFault → ℕ → ℕ
 dials_read (Ok script) dialled = length script.dials
 dials_read (Err fault) dialled = dialled
 

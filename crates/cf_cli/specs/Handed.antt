@@ -1,7 +1,7 @@
 -- statement: what is promised of each thing that a run is handed.
 use Rattle.std.specs.Prelude.{◌≡◌, ◌≢◌, ℕ, ℤ, Bool, true, false, List, [], ◌∷◌, Option, IfSome}
 use Rattle.std.specs.FinMap as finite
-use Rattle.cf_bytes.specs.Files.{Named, Reads, Opens, Parts, Writes}
+use Rattle.cf_bytes.specs.Files.{Named, ReadsFile, Opens, Parts, WritesFile}
 use Rattle.cf_bytes.specs.Outside.{HasRisen}
 use Rattle.cf_place.specs.Standing.{Greeting}
 use Rattle.cf_run.specs.Run.{HasDialled, HasFailed}
@@ -41,7 +41,7 @@ pub record IsNewPlayed (played : Played) : Type 0 where
 
 -- The files: the watch file is judged first, it alone is read, what becomes of them goes by the answer and by the log, and their count of faults has risen
 -- where they are to blame, and stays with any other answer.
-pub record RunsFiles {F : Type 0} (files : F → Option Named) (faults : F → ℕ) (reads : Reads F) (opens : Opens F) (parts : Parts F) (writes : Writes F)
+pub record RunsFiles {F : Type 0} (files : F → Option Named) (faults : F → ℕ) (reads : ReadsFile F) (opens : Opens F) (parts : Parts F) (writes : WritesFile F)
     (watch : List ℕ) (file : Option (List ℕ)) (log : Option Log) (status : Status) (before after : F) : Type 0 where
   pub judged : IfSome (files before) (λ m. IsJudged (watch_verdict (finite.get m watch)) status)
   pub asked : AsksFor reads opens parts writes (Whole watch ∷ []) file before after
@@ -69,7 +69,7 @@ pub record CountsOn (goes_on : Bool) (status : Status) (before after : ℕ) : Ty
 
 -- The files: a command that writes none changes none, what is asked of them is what the command asks, and their count of faults has risen where they are to
 -- blame, and stays with any other answer.
-pub record UsesFiles {F : Type 0} (files : F → Option Named) (faults : F → ℕ) (reads : Reads F) (opens : Opens F) (parts : Parts F) (writes : Writes F)
+pub record UsesFiles {F : Type 0} (files : F → Option Named) (faults : F → ℕ) (reads : ReadsFile F) (opens : Opens F) (parts : Parts F) (writes : WritesFile F)
     (command : Option Command) (status : Status) (before after : F) : Type 0 where
   pub unchanged : may_write command ≡ false → files after ≡ files before
   pub asked : AreAsked reads opens parts writes command before after

@@ -6,7 +6,7 @@ use Rattle.cf_wires.specs.declared.event.Delivery.TheVariants.{Got, Gone, Tick, 
 use Rattle.cf_wires.specs.declared.event.Dial.{Dial}
 use Rattle.cf_wires.specs.declared.event.Event.TheVariants.{SendFailed, Took}
 use Rattle.cf_wires.specs.Log.{Log, dials, with_delivery}
-use Rattle.cf_wires.specs.Wires.{Script}
+use Rattle.cf_wires.specs.Wires.{WireScript}
 use Rattle.cf_input.specs.Name.{is_name}
 use Rattle.cf_bytes.specs.Peers.{most_peers}
 use Rattle.cf_input.specs.SessionFile.{most_seconds}
@@ -19,7 +19,7 @@ told_deliveries (SendFailed p ∷ log) = told_deliveries log ++ Gone p ∷ []
 told_deliveries (_ ∷ log) = told_deliveries log
 
 -- the dials and the deliveries that they tell
-abbrev pub told_script : Log → Script
+abbrev pub told_script : Log → WireScript
 told_script log = record { dials = dials log; deliveries = told_deliveries log }
 
 abbrev pub AreNames : List Dial → Type 0

@@ -6,10 +6,10 @@ use Rattle.cf_answers.specs.Statuses.{has_run, was_refused, was_unbegun}
 use Rattle.cf_answers.specs.declared.status.Status.{Status}
 use Rattle.cf_input.specs.declared.words.Command.{Command}
 use Rattle.cf_input.specs.declared.words.Command.TheVariants.{Replay, Sync, Follow, Scan, Filter, Address, Prove, Check, Serve, Make, Demo}
-use Rattle.cf_loading.specs.Verdicts.{Verdict, and_then, no_file, watch_verdict, session_verdict, blocks_verdict, proof_verdict}
+use Rattle.cf_loading.specs.Verdicts.{FileVerdict, and_then, no_file, watch_verdict, session_verdict, blocks_verdict, proof_verdict}
 
 -- what the files of a command are judged as, in the order in which they are judged: the watch file first
-abbrev pub verdict_of : Named → Command → Verdict
+abbrev pub verdict_of : Named → Command → FileVerdict
 verdict_of files (Replay follow trace watch session) = and_then (watch_verdict (finite.get files watch)) (session_verdict (finite.get files session))
 verdict_of files (Sync turns workers file watch peers) = watch_verdict (finite.get files watch)
 verdict_of files (Follow turns workers file watch peers) = watch_verdict (finite.get files watch)

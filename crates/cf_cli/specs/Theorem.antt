@@ -21,7 +21,7 @@ use Rattle.cf_sync.specs.Honesty.{IsHonest, ShowsNoOther, IsNeverClosed}
 use Rattle.cf_sync.specs.Sync.{IsHashed}
 use Rattle.cf_wires.specs.Dials.{goes_as_made}
 use Rattle.cf_wires.specs.Log.{Log, Told, Tally, tally_of, deliveries, dials}
-use Rattle.cf_wires.specs.Wires.{Script}
+use Rattle.cf_wires.specs.Wires.{WireScript}
 use Rattle.cf_scan.specs.declared.history.Entry.{Entry}
 use Rattle.cf_scan.specs.HistoryText.{history_text}
 use Rattle.cf_scan.specs.Scan.{scan_of}
@@ -166,7 +166,7 @@ WasOver turns now = IfSome now.log (λ log. IsBusy log → IsOver turns now.tall
 
 -- What the log of a session says, whatever the answer: its dials and its deliveries are the first of the session's, in order. All deliveries are
 -- there once the end was told, and all dials once the run is made. Each dial went as the session says, and no send failed.
-pub record Plays (status : Status) (script : Script) (log : Log) : Type 0 where
+pub record Plays (status : Status) (script : WireScript) (log : Log) : Type 0 where
   pub dialled : (n : ℕ) × (dials log ≡ take n script.dials)
   pub given : (n : ℕ) × (deliveries log ≡ take n script.deliveries)
   pub all : has_run status ≡ true → dials log ≡ script.dials
@@ -187,6 +187,6 @@ IsReplayed status turns trace files watch before after was now log =
     × (status ≢ NoMemory → WasOver turns now)
 
 -- what the log says of a session that was read
-abbrev pub PlaysSession : Status → Result Script SessionFault → Log → Type 0
+abbrev pub PlaysSession : Status → Result WireScript SessionFault → Log → Type 0
 PlaysSession status (Ok script) log = Plays status script log
 PlaysSession status (Err fault) log = log ≡ []

@@ -5,7 +5,7 @@ use Rattle.cf_block.specs.declared.tx.Block.{Block}
 use Rattle.cf_dispute.specs.Counts.{CountsClaims}
 use Rattle.cf_filter.specs.Filter.{filter_hash_of}
 use Rattle.cf_headers.specs.Chain.{Chain, Hash, IsIn, IsPart}
-use Rattle.cf_headers.specs.Counts.{AreApart}
+use Rattle.cf_headers.specs.Counts.{AreDistinct}
 use Rattle.cf_headers.specs.Store.{Chains}
 use Rattle.cf_hear.specs.Seen.{Seen}
 use Rattle.cf_hear.specs.Tracks.{chain_kept}
@@ -131,7 +131,7 @@ pub record KeepsHeaders (log : Log) (n : ℕ) : Type 0 where
   pub many : length parts ≡ n
   pub kept : (part : Chain) → IsIn part parts → IsKeptHeader log part
   pub all : (part : Chain) → IsKeptHeader log part → IsIn part parts
-  pub apart : AreApart parts
+  pub apart : AreDistinct parts
 
 -- of what was seen, so many claims, verdicts, extracts and blocks whose outputs' items are kept
 pub record Counts (s : Seen) (held : Held) : Type 0 where
@@ -146,7 +146,7 @@ pub record GaveAtLeast (log : Log) (n : ℕ) : Type 0 where
   pub many : length filters ≡ n
   pub each : (filter : Hash × Hash) → IsIn filter filters
       → (job : Job) × IsGiven log job × (job.block.0 ≡ filter.0) × (filter_hash_of job.filter ≡ filter.1)
-  pub apart : AreApart filters
+  pub apart : AreDistinct filters
 
 -- The headers are those that the store's count finds on the connected peers' own chains. There are no more claims than hashes in the connected peers' right
 -- answers about claims, no more verdicts than filters that came, of which so many different ones were given, and no more extracts, and no more blocks whose

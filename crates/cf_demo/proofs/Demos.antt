@@ -37,7 +37,7 @@ use Rattle.cf_sync.specs.Honesty.{IsHonest}
 use Rattle.cf_sync.specs.Sync.{IsHashed, IsHistoryOf, SyncTheorem}
 use Rattle.cf_demo.specs.declared.demo.Demo.{Demo}
 use Rattle.cf_demo.specs.Demo.{demo_watch, demo_names, session_names, most_deliveries, peer_on, three_peers, ArePlayed, HavePrepared, HasPrepared, HasRunOver, IsToldBy, IsDemoOf, IsDemo, IsSession}
-use Rattle.cf_demo.specs.Playing.{IsRun, Plays, PlaysAlike, PlaysSilent, Accounts}
+use Rattle.cf_demo.specs.Playing.{IsRun, PlaysHonest, PlaysAlike, PlaysSilent, Accounts}
 use Rattle.cf_demo.specs.Three.{AreThree}
 use Rattle.cf_demo.proofs.Clashes.{made_good, two_made}
 use Rattle.cf_demo.proofs.Counts.{fetches_are, closes_are}
@@ -111,7 +111,7 @@ are_three first second third chain longer log h dials one two three = record {
     ticks = λ k s older is. h.ticks 1 k s older (peer_on Silent second) refl refl is;
     stays = h.stays;
   });
-  third = subst (λ (b : List Block). Plays b log 3) three (record {
+  third = subst (λ (b : List Block). PlaysHonest b log 3) three (record {
     past = λ k. h.past 2 k (peer_on Honest third) refl refl;
     ticks = λ k s older is. h.ticks 2 k s older (peer_on Honest third) refl refl is;
     stays = h.stays;

@@ -10,7 +10,7 @@ use Rattle.cf_played.specs.Answers.{is_plain, HasBegun, HasAnswered, HasBegunAli
 use Rattle.cf_played.specs.Peers.{Peer, still, AreGood}
 use Rattle.cf_sync.specs.Honesty.{IsHonest}
 use Rattle.cf_sync.specs.Sync.{IsHashed}
-use Rattle.cf_demo.specs.Playing.{IsRun, Plays, Accounts}
+use Rattle.cf_demo.specs.Playing.{IsRun, PlaysHonest, Accounts}
 use Rattle.cf_demo.proofs.Played.{run_honest}
 
 -- the peer at the same place of a list that is the same but for what waits
@@ -32,7 +32,7 @@ same_peer (x ∷ xs) (y ∷ ys) (suc i) peer e at =
     record { other = w.other; at = w.at; same = w.same }
 
 -- what is accounted for of one honest peer
-plays_so : (log : Log) (peers : List Peer) (i : ℕ) (peer : Peer) → Accounts log peers → slice_get peers i ≡ Some peer → peer.way ≡ Honest → Plays peer.blocks log (suc i)
+plays_so : (log : Log) (peers : List Peer) (i : ℕ) (peer : Peer) → Accounts log peers → slice_get peers i ≡ Some peer → peer.way ≡ Honest → PlaysHonest peer.blocks log (suc i)
 plays_so log peers i peer h at way =
     let plain : is_plain peer.way ≡ true = ap is_plain way in
     record {
@@ -48,7 +48,7 @@ honest_among olds news log good same accounts run i peer at way few clash =
     let its : peer.blocks ≡ w.other.blocks = sym (ap (λ (x : Peer). x.blocks) w.same) in
     let theirs : w.other.way ≡ Honest = ap (λ (x : Peer). x.way) w.same ∙ way in
     run_honest log (suc i) peer.blocks run (good.each i peer at) clash (omega arith) (omega (arith, few))
-    (subst (λ (blocks : List Block). Plays blocks log (suc i)) (sym its) (plays_so log news i w.other accounts w.at theirs))
+    (subst (λ (blocks : List Block). PlaysHonest blocks log (suc i)) (sym its) (plays_so log news i w.other accounts w.at theirs))
 
 -- what the peers account for, those account for that were added
 pub accounts_before : (olds news : List Peer) (log : Log) → map still olds ≡ map still news → Accounts log news → Accounts log olds

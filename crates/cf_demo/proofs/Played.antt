@@ -38,7 +38,7 @@ use Rattle.cf_played.specs.Answers.{came, told_to}
 use Rattle.cf_run.specs.Run.{AreNumbered}
 use Rattle.cf_played.specs.declared.kind.Way.TheVariants.{Honest}
 use Rattle.cf_played.specs.Answers.{HasBegun, HasAnswered, is_staying}
-use Rattle.cf_demo.specs.Playing.{IsRun, Plays}
+use Rattle.cf_demo.specs.Playing.{IsRun, PlaysHonest}
 use Rattle.cf_demo.proofs.Orderly.{IsGreetedWhere, WereGreeted, were_greeted}
 use Rattle.cf_demo.proofs.Beginnings.{AreSendable, Begins, begins, whole_words, begun_words, begun_messages}
 use Rattle.cf_demo.proofs.Fits.{AreReplies, IsQuestion, may_question, replies_good, sendable_of}
@@ -251,14 +251,14 @@ greeted_before (Closed q) log g = g
 greeted_before (Took d) log g = g.1
 
 -- what is asked of a log, of its earlier moments too
-plays_before : (blocks : List Block) (e : Event) (log : Log) (p : ℕ) → Plays blocks (e ∷ log) p → Plays blocks log p
+plays_before : (blocks : List Block) (e : Event) (log : Log) (p : ℕ) → PlaysHonest blocks (e ∷ log) p → PlaysHonest blocks log p
 plays_before blocks e log p h = record {
   past = λ k. h.past (suc k);
   ticks = λ k s older is. h.ticks (suc k) s older is;
   stays = (and_parts (is_staying e) (list_all is_staying log) h.stays).1;
 }
 
-in_time : (blocks : List Block) → Setting blocks → IsGoodChain blocks → (e : Event) (log : Log) (p : ℕ) → NeverOmits blocks log p → Rightly (e ∷ log) → AreNumbered (e ∷ log) → WereGreeted (e ∷ log) → Plays blocks (e ∷ log) p
+in_time : (blocks : List Block) → Setting blocks → IsGoodChain blocks → (e : Event) (log : Log) (p : ℕ) → NeverOmits blocks log p → Rightly (e ∷ log) → AreNumbered (e ∷ log) → WereGreeted (e ∷ log) → PlaysHonest blocks (e ∷ log) p
     → IsHonestOver log p blocks → InTime e log p
 in_time blocks s good (Took (Tick n)) log p never right numbered greets plays honest = λ opened.
     absurd (both_ways (is_open (trail log p))
@@ -272,7 +272,7 @@ in_time blocks s good (Sent q bytes) log p never right numbered greets plays hon
 in_time blocks s good (SendFailed q) log p never right numbered greets plays honest = tt
 in_time blocks s good (Closed q) log p never right numbered greets plays honest = tt
 
-pub honest_over : (blocks : List Block) → Setting blocks → IsGoodChain blocks → (log : Log) (p : ℕ) → NeverOmits blocks log p → Rightly log → AreNumbered log → WereGreeted log → Plays blocks log p → IsHonestOver log p blocks
+pub honest_over : (blocks : List Block) → Setting blocks → IsGoodChain blocks → (log : Log) (p : ℕ) → NeverOmits blocks log p → Rightly log → AreNumbered log → WereGreeted log → PlaysHonest blocks log p → IsHonestOver log p blocks
 honest_over blocks s good [] p never right numbered greets plays = tt
 honest_over blocks s good (e ∷ log) p never right numbered greets plays =
     let before = honest_over blocks s good log p never.1 (rightly_before e log right) (numbered_before e log numbered) (greeted_before e log greets) (plays_before blocks e log p plays) in (
@@ -333,7 +333,7 @@ called (Took Ended ∷ log) p numbered stays some few = absurd (false≢true sta
 -- ---- the law
 
 pub honest_peer : (log : Log) (p : ℕ) (blocks : List Block) → AreBytes log → IsGoodChain blocks → NoHashClash (IsHashed log blocks) → Rightly log → AreNumbered log → WereGreeted log
-    → 1 ≤ p → p ≤ (tally_of log).dials → Plays blocks log p → IsHonest log p blocks
+    → 1 ≤ p → p ≤ (tally_of log).dials → PlaysHonest blocks log p → IsHonest log p blocks
 honest_peer log p blocks bytes good clash right numbered greets some few plays = record {
   good = good;
   low = within_limit blocks good;
@@ -341,5 +341,5 @@ honest_peer log p blocks bytes good clash right numbered greets some few plays =
   honest = honest_over blocks (chain_setting log blocks clash good) good log p (never_omits log p blocks bytes clash good.each) right numbered greets plays;
 }
 
-pub run_honest : (log : Log) (p : ℕ) (blocks : List Block) → IsRun log → IsGoodChain blocks → NoHashClash (IsHashed log blocks) → 1 ≤ p → p ≤ (tally_of log).dials → Plays blocks log p → IsHonest log p blocks
+pub run_honest : (log : Log) (p : ℕ) (blocks : List Block) → IsRun log → IsGoodChain blocks → NoHashClash (IsHashed log blocks) → 1 ≤ p → p ≤ (tally_of log).dials → PlaysHonest blocks log p → IsHonest log p blocks
 run_honest log p blocks run good clash some few plays = honest_peer log p blocks run.bytes good clash run.rightly run.numbered (were_greeted log run.orderly) some few plays

@@ -44,7 +44,7 @@ use Rattle.cf_sync.proofs.Entries.{at_either}
 use Rattle.cf_sync.proofs.HonestLemmas.{rightly_before, honest_good, own_whole}
 use Rattle.cf_sync.proofs.Blamed.{never_omits}
 use Rattle.cf_sync.proofs.Settles.{shared_whole}
-use Rattle.cf_demo.specs.Playing.{IsRun, Plays, PlaysSilent}
+use Rattle.cf_demo.specs.Playing.{IsRun, PlaysHonest, PlaysSilent}
 use Rattle.cf_demo.proofs.Orderly.{WereGreeted, were_greeted}
 use Rattle.cf_demo.proofs.Beginnings.{word_of, words, AreSendable}
 use Rattle.cf_demo.proofs.Fits.{IsQuestion, replies_good, sendable_of}
@@ -305,7 +305,7 @@ never_hard [] p right soft (suc k) = (refl, tt)
 never_hard (e ∷ log) p right soft (suc k) = never_hard log p (rightly_before e log right) (hard_before e log p soft) k
 
 -- so it has answered as an honest peer does
-plays_honest : (blocks : List Block) (log : Log) (p : ℕ) → Rightly log → has_hard (told_to log p) ≡ false → PlaysSilent blocks log p → Plays blocks log p
+plays_honest : (blocks : List Block) (log : Log) (p : ℕ) → Rightly log → has_hard (told_to log p) ≡ false → PlaysSilent blocks log p → PlaysHonest blocks log p
 plays_honest blocks log p right soft h = record {
   past = λ k. let w = never_hard log p right soft k in subst (λ (ms : List Msg). take (length (came (drop k log) p)) (text_of ms) ≡ came (drop k log) p) (same_answers blocks false (told_to (drop k log) p) w.1 w.0) (h.past k);
   ticks = λ k s older is.

@@ -27,7 +27,7 @@ use Rattle.cf_sync.specs.Sync.{Followed, IsHistoryOf, SyncTheorem}
 use Rattle.cf_sync.proofs.Chains.{up_to, up_length, up_all, headers_length, Setting}
 use Rattle.cf_sync.proofs.Counted.{own_shown}
 use Rattle.cf_sync.proofs.Entries.{at_either}
-use Rattle.cf_demo.specs.Playing.{IsRun, Plays, PlaysAlike}
+use Rattle.cf_demo.specs.Playing.{IsRun, PlaysHonest, PlaysAlike}
 use Rattle.cf_demo.proofs.Orderly.{WereGreeted, were_greeted}
 use Rattle.cf_demo.specs.Three.{AreTwoChains, AreThree}
 use Rattle.cf_demo.proofs.Fits.{sendable_of}
@@ -72,7 +72,7 @@ rightly_at log right zero = right
 rightly_at [] right (suc k) = tt
 rightly_at (e ∷ log) right (suc k) = rightly_at log (rightly_before e log right) k
 
-pub honest_alike : (blocks : List Block) → IsGoodChain blocks → (log : Log) (p : ℕ) → Rightly log → Plays blocks log p → PlaysAlike Honest blocks log p
+pub honest_alike : (blocks : List Block) → IsGoodChain blocks → (log : Log) (p : ℕ) → Rightly log → PlaysHonest blocks log p → PlaysAlike Honest blocks log p
 honest_alike blocks good log p right h = record {
   past = λ k.
       let ms : List Msg = replies (pos 0) 0 blocks false (told_to (drop k log) p) in

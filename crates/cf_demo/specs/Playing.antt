@@ -20,7 +20,7 @@ pub record IsRun (log : Log) : Type 0 where
   pub orderly : WasOrderly log
 
 -- at every moment what came from p was a beginning of its machine's answers, and all of them whenever seconds passed; nobody was lost but by a close
-pub record Plays (blocks : List Block) (log : Log) (p : ℕ) : Type 0 where
+pub record PlaysHonest (blocks : List Block) (log : Log) (p : ℕ) : Type 0 where
   pub past : (k : ℕ) → HasBegun Honest blocks (drop k log) p
   pub ticks : (k s : ℕ) (older : Log) → drop k log ≡ Took (Tick s) ∷ older → HasAnswered Honest blocks older p
   pub stays : list_all is_staying log ≡ true

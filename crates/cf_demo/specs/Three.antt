@@ -6,7 +6,7 @@ use Rattle.cf_headers.specs.Chain.{NoHashClash}
 use Rattle.cf_wires.specs.Log.{Log, tally_of}
 use Rattle.cf_played.specs.declared.kind.Way.TheVariants.{Omits}
 use Rattle.cf_sync.specs.Sync.{IsHashed}
-use Rattle.cf_demo.specs.Playing.{Plays, PlaysSilent, PlaysAlike}
+use Rattle.cf_demo.specs.Playing.{PlaysHonest, PlaysSilent, PlaysAlike}
 
 -- a chain, and a longer one, both good; and no two of the strings that were hashed have one hash
 pub record AreTwoChains (chain longer : List Block) (log : Log) : Type 0 where
@@ -21,4 +21,4 @@ pub record AreThree (chain longer : List Block) (log : Log) : Type 0 where
   pub dials : (tally_of log).dials ≡ 3
   pub first : ∥ PlaysAlike Omits chain log 1 ∥₁
   pub second : PlaysSilent longer log 2
-  pub third : Plays chain log 3
+  pub third : PlaysHonest chain log 3

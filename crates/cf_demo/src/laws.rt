@@ -11,7 +11,7 @@ ghost use Rattle.cf_wires.specs.Log.{Log};
 ghost use Rattle.cf_scan.specs.declared.history.Entry.{Entry};
 ghost use Rattle.cf_sync.specs.{IsConnected, IsQuiet, counted_part, IsHonest, ShowsNoOther, Followed, IsHashed, IsHistoryOf, SyncTheorem};
 ghost use Rattle.cf_played.specs.declared.kind.Way.{Way};
-ghost use Rattle.cf_demo.specs.Playing.{IsRun, Plays, PlaysAlike, PlaysSilent};
+ghost use Rattle.cf_demo.specs.Playing.{IsRun, PlaysHonest, PlaysAlike, PlaysSilent};
 ghost use Rattle.cf_demo.specs.Three.{AreThree, AreTwoChains};
 
 /// A peer that was dialled, whose bytes are at every moment a beginning of its machine's answers on a good chain, and
@@ -20,7 +20,7 @@ ghost use Rattle.cf_demo.specs.Three.{AreThree, AreTwoChains};
 pub fn a_played_peer_is_honest()
     ensures { (log : Log) (p : ℕ) (blocks : List Block)
         → IsRun log → IsGoodChain blocks → NoHashClash (IsHashed log blocks) → 1 ≤ p → p ≤ (tally_of log).dials
-        → Plays blocks log p → IsHonest log p blocks }
+        → PlaysHonest blocks log p → IsHonest log p blocks }
 {}
 
 /// A peer whose answers are its machine's but for what they tell of filters shows parts of its chain and nothing else.

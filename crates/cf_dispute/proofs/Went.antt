@@ -4,7 +4,7 @@ use Rattle.std.proofs.lemmas.Bool.{cases_Bool, cases_eq}
 use Rattle.std.proofs.lemmas.List.{drop_all, length-map}
 use Rattle.cf_bytes.specs.declared.hash.Hash32.{Hash32}
 use Rattle.cf_headers.specs.Chain.{Hash, IsIn}
-use Rattle.cf_headers.specs.Counts.{AreApart}
+use Rattle.cf_headers.specs.Counts.{AreDistinct}
 use Rattle.cf_headers.specs.Rules.{same}
 use Rattle.cf_dispute.specs.declared.claim.At.TheVariants.{Differ}
 use Rattle.cf_dispute.specs.Claims.{Tables, IsAt}
@@ -16,8 +16,8 @@ use Rattle.cf_dispute.proofs.RowLaws.{block_same, off_same}
 -- p gave a hash for each of the first i blocks: others claim the same, or of one of them differ
 pub record Went (blocks : List Hash32) (i p : ℕ) (start now : Tables) (differ : Bool) : Type 0 where
   pub agreed : differ ≡ false → (b : Hash) → IsIn b (blocks_of blocks) → (IsAt now b Differ → ⊥) ⊎ IsIn b (drop i (blocks_of blocks))
-  pub left : AreApart blocks → ClaimsNone (start p) blocks → (b : Hash) → IsIn b (drop i (blocks_of blocks)) → now p b ≡ None
-  pub differs : differ ≡ true → AreApart blocks → ClaimsNone (start p) blocks
+  pub left : AreDistinct blocks → ClaimsNone (start p) blocks → (b : Hash) → IsIn b (drop i (blocks_of blocks)) → now p b ≡ None
+  pub differs : differ ≡ true → AreDistinct blocks → ClaimsNone (start p) blocks
       → (b : Hash) × (IsIn b (blocks_of blocks) × ((IsIn b (drop i (blocks_of blocks)) → ⊥) × IsAt now b Differ))
 
 differ_as : (a b : Tables) (block : Hash) → ((q : ℕ) → b q block ≡ a q block) → IsAt a block Differ → IsAt b block Differ
@@ -40,7 +40,7 @@ named_in x (y ∷ ys) (inl e) = inl (block_same x y e)
 named_in x (y ∷ ys) (inr i) = inr (named_in x ys i)
 
 -- where no block is named twice, a later one is another
-later_other : (blocks : List Hash32) (i : ℕ) (d : Hash32) (b : Hash) → i < length blocks → AreApart blocks → IsIn b (drop (suc i) (blocks_of blocks)) → b ≡ (get_or blocks i d).0 → ⊥
+later_other : (blocks : List Hash32) (i : ℕ) (d : Hash32) (b : Hash) → i < length blocks → AreDistinct blocks → IsIn b (drop (suc i) (blocks_of blocks)) → b ≡ (get_or blocks i d).0 → ⊥
 later_other [] i d b low apart later e = absurd (omega (arith, low))
 later_other (x ∷ xs) zero d b low apart later e = apart.0 (named_in x xs (subst (λ (k : Hash). IsIn k (blocks_of xs)) e later))
 later_other (x ∷ xs) (suc i) d b low apart later e = later_other xs i d b (omega (arith, low)) apart.1 later e
@@ -79,12 +79,12 @@ went_on blocks i d p start before after differ more low agrees differs elsewhere
     here : IsIn (get_or blocks i d).0 (drop i (blocks_of blocks))
     here = subst (λ (xs : List Hash). IsIn (get_or blocks i d).0 xs) (sym rest_is) (inl refl)
 
-    other : AreApart blocks → (b : Hash) → IsIn b (drop (i + 1) (blocks_of blocks)) → b ≡ (get_or blocks i d).0 → ⊥
+    other : AreDistinct blocks → (b : Hash) → IsIn b (drop (i + 1) (blocks_of blocks)) → b ≡ (get_or blocks i d).0 → ⊥
     other apart b later =
         let step : i + 1 ≡ suc i = omega arith in
         later_other blocks i d b low apart (subst (λ (n : ℕ). IsIn b (drop n (blocks_of blocks))) step later)
 
-    by : AreApart blocks → ClaimsNone (start p) blocks → (z : Bool) → differ ≡ z → (differ || more) ≡ true
+    by : AreDistinct blocks → ClaimsNone (start p) blocks → (z : Bool) → differ ≡ z → (differ || more) ≡ true
         → (b : Hash) × (IsIn b (blocks_of blocks) × ((IsIn b (drop (i + 1) (blocks_of blocks)) → ⊥) × IsAt after b Differ))
     by apart free true e on =
         let s = w.differs e apart free in

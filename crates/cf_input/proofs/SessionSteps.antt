@@ -4,7 +4,7 @@ use Rattle.std.specs.Prelude.{Result, Ok, Err}
 use Rattle.cf_bytes.specs.Cut.{◌>>=◌}
 use Rattle.cf_bytes.specs.declared.memory.Refused.{Refused}
 use Rattle.cf_bytes.specs.declared.memory.Refused.TheVariants.{No, NoMemory}
-use Rattle.cf_wires.specs.Wires.{Script}
+use Rattle.cf_wires.specs.Wires.{WireScript}
 use Rattle.cf_input.specs.Lines.{GivesRead}
 use Rattle.cf_input.specs.SessionFile.{is_none, dialled}
 use Rattle.cf_input.specs.declared.session.SessionCause.TheVariants.{NoDial}
@@ -24,8 +24,8 @@ some_is : {X : Type 0} (xs : List X) → 0 < length xs → is_none xs ≡ false
 some_is [] h = absurd (omega arith)
 some_is (x ∷ xs) h = refl
 
-pub no_dial : (all : Result Script SessionFault) (s : Script) → all ≡ Ok s → length s.dials ≡ 0 → (all >>= dialled) ≡ Err (record { cause = NoDial; place = 1 })
+pub no_dial : (all : Result WireScript SessionFault) (s : WireScript) → all ≡ Ok s → length s.dials ≡ 0 → (all >>= dialled) ≡ Err (record { cause = NoDial; place = 1 })
 no_dial all s h none = ap (λ r. r >>= dialled) h ∙ rw (none_is s.dials none) refl
 
-pub some_dial : (all : Result Script SessionFault) (s : Script) → all ≡ Ok s → 0 < length s.dials → (all >>= dialled) ≡ Ok s
+pub some_dial : (all : Result WireScript SessionFault) (s : WireScript) → all ≡ Ok s → 0 < length s.dials → (all >>= dialled) ≡ Ok s
 some_dial all s h some = ap (λ r. r >>= dialled) h ∙ rw (some_is s.dials some) refl

@@ -5,7 +5,7 @@ use Rattle.std.specs.Str.{bytes_eq}
 use Rattle.cf_bytes.specs.Peers.{most_peers}
 use Rattle.cf_bytes.specs.Cut.{◌>>=◌}
 use Rattle.cf_bytes.specs.declared.peer.PeerNo.{PeerNo}
-use Rattle.cf_wires.specs.Wires.{Script}
+use Rattle.cf_wires.specs.Wires.{WireScript}
 use Rattle.cf_wires.specs.declared.event.Dial.{Dial}
 use Rattle.cf_wires.specs.declared.event.Delivery.{Delivery}
 use Rattle.cf_wires.specs.declared.event.Delivery.TheVariants.{Got, Gone, Tick}
@@ -90,7 +90,7 @@ is_none [] = true
 is_none (x ∷ xs) = false
 
 -- a session with one line more, where the line is this dial, or none
-abbrev pub with_line_by : Script → List ℕ → Option Dial → Result Script SessionCause
+abbrev pub with_line_by : WireScript → List ℕ → Option Dial → Result WireScript SessionCause
 with_line_by s line (Some d) =
     if is_none s.deliveries then
     (if nat_le most_peers (length s.dials) then Err ManyDials else Ok (record s { dials = s.dials ++ d ∷ [] }))
@@ -100,7 +100,7 @@ with_line_by s line None =
     else delivery_of (length s.dials) line >>= λ d. Ok (record s { deliveries = s.deliveries ++ d ∷ [] })
 
 -- a session with one line more: a dial before all deliveries, or a delivery; or why the line is refused
-abbrev pub with_line : Script → List ℕ → Result Script SessionCause
+abbrev pub with_line : WireScript → List ℕ → Result WireScript SessionCause
 with_line s line = with_line_by s line (dial_of line)
 
 -- what a line gives, its fault with the line's number
@@ -109,17 +109,17 @@ at_place place (Ok x) = Ok x
 at_place place (Err cause) = Err (record { cause = cause; place = place })
 
 -- how many lines a session has
-abbrev pub lines_in : Script → ℕ
+abbrev pub lines_in : WireScript → ℕ
 lines_in s = length s.dials + length s.deliveries
 
 -- a line after those of a session, its number counted from 1
-abbrev pub line_after : Script → List ℕ → Result Script SessionFault
+abbrev pub line_after : WireScript → List ℕ → Result WireScript SessionFault
 line_after s line = at_place (lines_in s + 1) (with_line s line)
 
 -- a session has a dial
-abbrev pub dialled : Script → Result Script SessionFault
+abbrev pub dialled : WireScript → Result WireScript SessionFault
 dialled s = if is_none s.dials then Err (record { cause = NoDial; place = 1 }) else Ok s
 
 -- the session of a file, or its first fault
-abbrev pub session_of : List ℕ → Result Script SessionFault
+abbrev pub session_of : List ℕ → Result WireScript SessionFault
 session_of bytes = read_lines line_after (record { dials = []; deliveries = [] }) (lines_of bytes) >>= dialled

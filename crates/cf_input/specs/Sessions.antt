@@ -2,14 +2,14 @@
 use Rattle.std.specs.Prelude.{◌≡◌, ◌+◌, ◌≤◌, true, length, map, string_bytes}
 use Rattle.std.specs.List.{list_all}
 use Rattle.cf_wires.specs.Log.{is_real}
-use Rattle.cf_wires.specs.Wires.{Script}
+use Rattle.cf_wires.specs.Wires.{WireScript}
 use Rattle.cf_wires.specs.declared.event.Dial.{Dial}
 use Rattle.cf_input.specs.declared.session.Session.{Session}
 use Rattle.cf_bytes.specs.Peers.{most_peers}
 use Rattle.cf_input.specs.SessionFile.{lines_in}
 
 -- what wires in memory are made to give by a session: its dials and its deliveries
-abbrev pub script_in : Session → Script
+abbrev pub script_in : Session → WireScript
 script_in s = record { dials = s.dials.items; deliveries = s.deliveries.items }
 
 -- the names are those of the dials

@@ -2,14 +2,14 @@
 use Rattle.std.proofs.Common.{ℕ, List, Result}
 use Rattle.std.specs.Prelude.{Vec}
 use Rattle.std.specs.Global.{Global}
-use Rattle.cf_bytes.specs.Files.{Reads, Opens, Parts, IsRead}
+use Rattle.cf_bytes.specs.Files.{ReadsFile, Opens, Parts, IsRead}
 use Rattle.cf_bytes.specs.declared.files.FileFail.{FileFail}
 use Rattle.cf_conn.specs.Opened.{IsPartRead, IsReadByParts}
 use Rattle.cf_conn.specs.Steps.{Steps}
 use Rattle.cf_conn.proofs.Stepping.{no_steps}
 
 -- a file that was read whole
-pub is_read : {F : Type 0} (reads : Reads F) (name : List ℕ) (most : ℕ) (result : Result (Vec ℕ Global) FileFail) (before after : F) → reads before name most result after → IsRead reads name before after
+pub is_read : {F : Type 0} (reads : ReadsFile F) (name : List ℕ) (most : ℕ) (result : Result (Vec ℕ Global) FileFail) (before after : F) → reads before name most result after → IsRead reads name before after
 is_read reads name most result before after h = (most, result, h)
 
 -- a file that was opened, and read so far

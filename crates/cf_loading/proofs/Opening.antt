@@ -16,7 +16,7 @@ use Rattle.cf_walk.specs.Striding.{ReadsAs}
 use Rattle.cf_walk.proofs.Strides.{all_count}
 use Rattle.cf_answers.specs.declared.status.Status.{Status}
 use Rattle.cf_loading.specs.Scanning.{IsScanOf}
-use Rattle.cf_loading.specs.Verdicts.{Verdict, Good, IsReadAs, IsUnloaded, blocks_read, blocks_verdict}
+use Rattle.cf_loading.specs.Verdicts.{FileVerdict, Good, IsReadAs, IsUnloaded, blocks_read, blocks_verdict}
 
 -- what one read of a source over an opened file does: it keeps the reference and the files, and reads some bytes
 abbrev pub StepOf : {S F M : Type 0} → Parts F → (F → M) → (S → ℕ) → (S → F) → S → S → Type 0

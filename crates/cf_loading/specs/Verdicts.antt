@@ -31,43 +31,43 @@ abbrev pub most_proof : ℕ
 most_proof = 4000000
 
 -- what stands under a name: no file, a file that is refused, or a good one
-pub data Verdict : Type 0 where
-  Missing : Verdict
-  Bad : (which : Which) → (place : ℕ) → (cause : FileCause) → Verdict
-  Good : Verdict
+pub data FileVerdict : Type 0 where
+  Missing : FileVerdict
+  Bad : (which : Which) → (place : ℕ) → (cause : FileCause) → FileVerdict
+  Good : FileVerdict
 
 -- the verdict by what reading a file gave: where it is refused, the one for why
-abbrev pub read_verdict : {A F : Type 0} → (F → Verdict) → Result A F → Verdict
+abbrev pub read_verdict : {A F : Type 0} → (F → FileVerdict) → Result A F → FileVerdict
 read_verdict refused (Ok read) = Good
 read_verdict refused (Err fault) = refused fault
 
 -- the verdict on a file of at most so many bytes: missing, too big, or by its bytes
-abbrev pub file_verdict : Which → ℕ → (List ℕ → Verdict) → Option (List ℕ) → Verdict
+abbrev pub file_verdict : Which → ℕ → (List ℕ → FileVerdict) → Option (List ℕ) → FileVerdict
 file_verdict which most judged None = Missing
 file_verdict which most judged (Some bytes) = if nat_lt most (length bytes) then Bad which 0 TooBig else judged bytes
 
 -- what a watch file is judged as: missing, too big, refused with its first bad line and cause, or good
-abbrev pub watch_verdict : Option (List ℕ) → Verdict
+abbrev pub watch_verdict : Option (List ℕ) → FileVerdict
 watch_verdict = file_verdict Watch most_watch (λ bytes. read_verdict (λ fault. Bad Watch fault.place (OfWatch fault.cause)) (watch_of bytes))
 
 -- what a session file is judged as: missing, too big, refused with its first bad line and cause, or good
-abbrev pub session_verdict : Option (List ℕ) → Verdict
+abbrev pub session_verdict : Option (List ℕ) → FileVerdict
 session_verdict = file_verdict Session most_session (λ bytes. read_verdict (λ fault. Bad Session fault.place (OfSession fault.cause)) (session_of bytes))
 
 -- the verdict on a block file, by what reading it gave
-abbrev pub blocks_read : Result (List Block) BadBlock → Verdict
+abbrev pub blocks_read : Result (List Block) BadBlock → FileVerdict
 blocks_read = read_verdict (λ bad. Bad Blocks bad.number (OfBlocks bad.cause))
 
 -- what a file of blocks is judged as: missing, refused with its first bad record and cause, or good
-abbrev pub blocks_verdict : Option (List ℕ) → Verdict
+abbrev pub blocks_verdict : Option (List ℕ) → FileVerdict
 blocks_verdict = file_verdict Blocks most_blocks (λ bytes. blocks_read (blocks_at bytes))
 
 -- what the file of a proof is judged as: missing, too big, refused with its first bad line and cause, or good
-abbrev pub proof_verdict : Option (List ℕ) → Verdict
+abbrev pub proof_verdict : Option (List ℕ) → FileVerdict
 proof_verdict = file_verdict Proof most_proof (λ bytes. read_verdict (λ fault. Bad Proof fault.place (OfProof fault.cause)) (proof_file_of bytes))
 
 -- what reading a file answers: a good one, or the program's answer
-abbrev pub IsReadAs : {X : Type 0} → Verdict → Result X Status → Type 0
+abbrev pub IsReadAs : {X : Type 0} → FileVerdict → Result X Status → Type 0
 IsReadAs verdict (Ok x) = verdict ≡ Good
 IsReadAs verdict (Err FileFault) = Unit {0}
 IsReadAs verdict (Err NoMemory) = Unit {0}
@@ -102,17 +102,17 @@ IsUnloaded faults.NoMemory status = status ≡ NoMemory
 -- ---- the answers of commands
 
 -- the watch file is judged first
-abbrev pub and_then : Verdict → Verdict → Verdict
+abbrev pub and_then : FileVerdict → FileVerdict → FileVerdict
 and_then Missing later = Missing
 and_then (Bad which place cause) later = Bad which place cause
 and_then Good later = later
 
 -- a command that reads no file
-abbrev pub no_file : Verdict
+abbrev pub no_file : FileVerdict
 no_file = Good
 
 -- a file that is missing or refused is answered so, and no other is; a read may fail, and memory may be wanting
-abbrev pub IsJudged : Verdict → Status → Type 0
+abbrev pub IsJudged : FileVerdict → Status → Type 0
 IsJudged verdict FileFault = Unit {0}
 IsJudged verdict NoMemory = Unit {0}
 IsJudged verdict Usage = ⊥

@@ -14,7 +14,7 @@ use Rattle.std.proofs.lemmas.Slice.Eq.{bytes_eq-Decides}
 use Rattle.std.proofs.lemmas.Map.Keys.{sorted_head, sorted_tail}
 use Rattle.cf_dispute.proofs.PutIn.{same_true}
 use Rattle.cf_headers.specs.Chain.{Hash, IsIn}
-use Rattle.cf_headers.specs.Counts.{AreApart}
+use Rattle.cf_headers.specs.Counts.{AreDistinct}
 use Rattle.cf_headers.specs.Rules.{same}
 use Rattle.cf_match.specs.declared.job.Verdict.{Verdict}
 use Rattle.cf_tables.specs.declared.judged.Judging.{Judging}
@@ -82,7 +82,7 @@ clear_of k (e ∷ rest) all (inl is) =
     not_under k.block.0 k.filter.0 (subst (λ (x : Hash × Hash). ordering_then (slice_cmp nat_cmp k.block.0 x.0) (slice_cmp nat_cmp k.filter.0 x.1) ≡ Less) (sym is) all.0)
 clear_of k (e ∷ rest) all (inr i) = clear_of k rest all.1 i
 
-pub filters_apart : (entries : List (Judging × Verdict)) → IsStrictlySortedBy judging_cmp (keys_of entries) → AreApart (filters_in entries)
+pub filters_apart : (entries : List (Judging × Verdict)) → IsStrictlySortedBy judging_cmp (keys_of entries) → AreDistinct (filters_in entries)
 filters_apart [] sorted = tt
 filters_apart (e ∷ rest) sorted = (
   λ i. clear_of e.0 rest (sorted_head judging_cmp e.0 (keys_of rest) sorted) i,

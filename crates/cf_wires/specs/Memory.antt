@@ -5,10 +5,10 @@ use Rattle.cf_wires.specs.declared.memory.MemoryWires.{MemoryWires}
 use Rattle.cf_wires.specs.declared.memory.Scripted.{Scripted}
 use Rattle.cf_wires.specs.declared.memory.Scripted.TheVariants.{Dial as MadeDial, NoDial as MadeNoDial, Deliver}
 use Rattle.cf_wires.specs.Log.{Log, Told, tally_of, is_real}
-use Rattle.cf_wires.specs.Wires.{Script, Made}
+use Rattle.cf_wires.specs.Wires.{WireScript, Made}
 
 -- what the wires are made to give: dials and deliveries
-abbrev pub script_of : MemoryWires → Script
+abbrev pub script_of : MemoryWires → WireScript
 script_of w = record { dials = w.dial_script.items; deliveries = w.script.items }
 
 -- the log, the newest entry first
@@ -50,11 +50,11 @@ may_be_added (MadeNoDial name) = true
 may_be_added (Deliver d) = is_real d
 
 -- a script with one dial more
-abbrev pub with_dial : Script → Dial → Script
+abbrev pub with_dial : WireScript → Dial → WireScript
 with_dial s d = record s { dials = s.dials ++ d ∷ [] }
 
 -- one more thing to give
-abbrev pub with_scripted : Script → Scripted → Script
+abbrev pub with_scripted : WireScript → Scripted → WireScript
 with_scripted s (MadeDial name) = with_dial s (record { name = name; answered = true })
 with_scripted s (MadeNoDial name) = with_dial s (record { name = name; answered = false })
 with_scripted s (Deliver d) = record s { deliveries = s.deliveries ++ d ∷ [] }

@@ -12,11 +12,11 @@ pub record HasCause {T : Type 0} (before now : ℕ) (result : Result T WireFail)
   pub failed : IsErrOf result Failed → HasRisen before now
 
 -- what wires in memory are made to give: how the dials go, in order, and the deliveries
-pub record Script : Type 0 where
+pub record WireScript : Type 0 where
   pub dials : List Dial
   pub deliveries : List Delivery
 
 -- a script, and which calls of dial and send are to fail, counted from 1
 pub record Made : Type 0 where
-  pub script : Script
+  pub script : WireScript
   pub failing : List ℕ
