@@ -6,7 +6,7 @@ ghost use Rattle.cf_bytes.specs.declared.hash.Hash32.{Hash32};
 ghost use Rattle.cf_block.specs.declared.tx.Block.{Block};
 ghost use Rattle.cf_msg.specs.declared.msg.Msg.{Msg};
 ghost use Rattle.cf_msg.specs.declared.msg.Msg.TheVariants.{GetHeaders, Headers, GetCfilters, GetCfheaders, GetCfcheckpt};
-ghost use Rattle.cf_msg.specs.Message.{is_version};
+ghost use Rattle.cf_msg.specs.{is_version};
 ghost use Rattle.cf_chain.specs.Filters.{filter_at};
 ghost use Rattle.cf_chain.specs.Grow.{Asking, IsAnsweredAlone, IsToldFirst, NotMet, TipTold, growing_answers, grow_answer, mark_at};
 ghost use Rattle.cf_chain.specs.Heights.{block_height};

@@ -1,7 +1,7 @@
 //! The client over played peers.
 ghost use Rattle.cf_offline.specs.{CountsOut};
 ghost use Rattle.std.specs.Prelude.{◌≡◌, ◌≢◌, ◌≤◌, ◌++◌, ℕ, [], false, IfErr, IfOk, OnOk, codes, string_bytes};
-ghost use Rattle.cf_headers.specs.Chain.{height_limit};
+ghost use Rattle.cf_headers.specs.{height_limit};
 ghost use Rattle.cf_demo.specs.{IsDemo, IsSession, IsUnmade, IsUnplayed};
 ghost use Rattle.cf_wires.specs.Log.{Log};
 ghost use Rattle.cf_wires.specs.{session_text};

@@ -1,7 +1,7 @@
 //! Runs of the client over peers in memory on made chains.
 ghost use Rattle.std.specs.Prelude.{◌≡◌, ◌≢◌, ◌⊎◌, ◌≤◌, ◌<◌, ◌+◌, ◌++◌, ◌∷◌, ℕ, [], map, length, IfOk, IfErr, OnOk, true, false};
 ghost use Rattle.cf_chain.specs.{IsGoodChain};
-ghost use Rattle.cf_headers.specs.Chain.{height_limit};
+ghost use Rattle.cf_headers.specs.{height_limit};
 ghost use Rattle.cf_run.specs.{names_in};
 ghost use Rattle.cf_demo.specs.Demo.{IsDemo, IsSession, IsToldBy, IsUnmade, IsUnplayed, IsRefusedFor, ArePlayed, HavePrepared, HasPrepared, HasRunOver, AreAdded, demo_watch, demo_names, session_names};
 ghost use Rattle.cf_make.specs.{IsExtension, seed_limit};

@@ -2,8 +2,7 @@
 ghost use Rattle.std.specs.Prelude.{◌≡◌, ◌==◌, ◌≤◌, ◌++◌, length, take_while, IfOk, IfNone, true};
 ghost use Rattle.std.specs.Int.{w32, to_le_bytes};
 ghost use Rattle.std.specs.List.{list_all};
-ghost use Rattle.cf_bytes.specs.{Reads};
-ghost use Rattle.cf_bytes.specs.Magic.{magic};
+ghost use Rattle.cf_bytes.specs.{Reads, magic};
 ghost use Rattle.cf_frame.specs.Frame.{is_command as is_command_of, is_printable as printable_of};
 ghost use Rattle.cf_frame.specs.Reading.{header_at, header_fault};
 

@@ -3,8 +3,8 @@ ghost use Rattle.std.specs.Prelude.{◌≡◌, ◌≢◌, ◌∷◌, ◌++◌, �
 ghost use Rattle.cf_bytes.specs.declared.hash.Hash32.{Hash32};
 ghost use Rattle.cf_bytes.specs.declared.peer.PeerNo.{PeerNo};
 ghost use Rattle.cf_block.specs.declared.tx.Block.{Block};
-ghost use Rattle.cf_headers.specs.{IsIn, back_to, common_of};
-ghost use Rattle.cf_headers.specs.Chain.{Chain, IsAbove};
+ghost use Rattle.cf_headers.specs.{IsIn, back_to, common_of, IsAbove};
+ghost use Rattle.cf_headers.specs.Chain.{Chain};
 ghost use Rattle.cf_msg.specs.declared.msg.Msg.{Msg};
 ghost use Rattle.cf_msg.specs.declared.msg.Msg.TheVariants.{GetData, GetCfilters};
 ghost use Rattle.cf_wires.specs.declared.event.Delivery.TheVariants.{Got};

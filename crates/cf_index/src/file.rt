@@ -1,7 +1,7 @@
 //! Files of blocks.
 ghost use Rattle.std.specs.Prelude.{◌≡◌, ◌≤◌, ◌+◌, [], zero, suc, length, IfOk};
 ghost use Rattle.cf_chain.specs.{IsGoodChain};
-ghost use Rattle.cf_headers.specs.Chain.{height_limit};
+ghost use Rattle.cf_headers.specs.{height_limit};
 ghost use Rattle.cf_walk.specs.{IsGoodFile, StopsAt, IsBadFile, IfBad, next_at, blocks_from, blocks_at, Answers, HasRecord, IsRecordsOf};
 ghost use Rattle.cf_index.specs.Progress.{Keeps, GivesNext};
 

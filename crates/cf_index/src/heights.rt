@@ -2,8 +2,7 @@
 ghost use Rattle.std.specs.Prelude.{◌≡◌, ◌≤◌, ◌∷◌, [], length, IfOk, OnOk, OnErr, position};
 ghost use Rattle.std.specs.FinMap.{get, empty};
 ghost use Rattle.cf_bytes.specs.declared.hash.Hash32.{Hash32};
-ghost use Rattle.cf_headers.specs.Chain.{height_limit};
-ghost use Rattle.cf_headers.specs.{same};
+ghost use Rattle.cf_headers.specs.{height_limit, same};
 ghost use Rattle.cf_index.specs.ByHash.{with_first};
 ghost use Rattle.cf_index.specs.HeightMap.{first_hash};
 

@@ -5,7 +5,7 @@ ghost use Rattle.std.specs.List.{AllByRecursion};
 ghost use Rattle.std.specs.Option.{option_or};
 ghost use Rattle.cf_block.specs.{bytes_of};
 ghost use Rattle.cf_bytes.specs.declared.hash.Hash32.{Hash32};
-ghost use Rattle.cf_headers.specs.Chain.{height_limit};
+ghost use Rattle.cf_headers.specs.{height_limit};
 ghost use Rattle.cf_index.specs.ByHash.{with_first};
 ghost use Rattle.cf_index.specs.Finding.{found_from, place_at, AreFirstPlaces, AreTaken};
 

@@ -4,7 +4,7 @@ ghost use Rattle.std.specs.List.{flat_map, AllByRecursion};
 ghost use Rattle.cf_block.specs.declared.tx.Block.{Block};
 ghost use Rattle.cf_block.specs.{spelled_txs, NoClash, IsStored, block_spelling};
 ghost use Rattle.cf_chain.specs.{IsGoodChain};
-ghost use Rattle.cf_headers.specs.Chain.{height_limit};
+ghost use Rattle.cf_headers.specs.{height_limit};
 ghost use Rattle.cf_make.specs.Made.{seed_limit, IsExtension, StopsAt, IsMadeChain};
 ghost use Rattle.cf_make.specs.Records.{records_of, text_of, made_records_of};
 

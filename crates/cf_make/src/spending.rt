@@ -1,6 +1,6 @@
 //! The transactions of made chains.
 ghost use Rattle.std.specs.Prelude.{◌≡◌, ◌≤◌, ◌<◌, ◌+◌, ◌^◌, ◌∷◌, [], length, IfOk};
-ghost use Rattle.cf_headers.specs.Chain.{height_limit};
+ghost use Rattle.cf_headers.specs.{height_limit};
 ghost use Rattle.cf_make.specs.Made.{seed_limit, mark_of, coinbase_of, second_of, seconds_of, made_txs};
 
 use crate::paying::pay;

@@ -1,6 +1,6 @@
 //! The records of a made chain, made a block at a time.
 ghost use Rattle.std.specs.Prelude.{◌≡◌, ◌≤◌, ◌<◌, ◌++◌, IfOk, IfErr, OnOk};
-ghost use Rattle.cf_headers.specs.Chain.{height_limit};
+ghost use Rattle.cf_headers.specs.{height_limit};
 ghost use Rattle.cf_make.specs.Made.{seed_limit, genesis_tip};
 ghost use Rattle.cf_make.specs.Records.{made_record};
 ghost use Rattle.cf_make.specs.Streamed.{AreRecordsOf, StopsFor};

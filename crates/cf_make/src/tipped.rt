@@ -1,7 +1,7 @@
 //! One made block, and what the block above it needs.
 ghost use Rattle.std.specs.Prelude.{◌≡◌, ◌≤◌, ◌<◌, ◌+◌, ◌*◌, pos, Some, IfOk, length, map};
 ghost use Rattle.cf_block.specs.{tx_spelling, merkle_root_of, txids as txids_of};
-ghost use Rattle.cf_headers.specs.Chain.{height_limit};
+ghost use Rattle.cf_headers.specs.{height_limit};
 ghost use Rattle.cf_make.specs.Made.{seed_limit, first_coin};
 ghost use Rattle.cf_make.specs.Tipping.{MinesHashed, MakesTipped};
 

@@ -2,7 +2,7 @@
 ghost use Rattle.std.specs.Prelude.{◌≡◌, ◌≤◌, ◌<◌, ◌+◌, Bool, true, length, IfOk, IfSome, OnOk};
 ghost use Rattle.std.specs.List.{AllByRecursion};
 ghost use Rattle.cf_block.specs.{IsHash};
-ghost use Rattle.cf_headers.specs.Chain.{height_limit};
+ghost use Rattle.cf_headers.specs.{height_limit};
 ghost use Rattle.cf_played.specs.Answers.{is_filtering};
 ghost use Rattle.cf_played.specs.Frames.{AreFramesAlike, IsFrameAlike, IsOther, machine};
 ghost use Rattle.cf_server.specs.{IsReplyOf, AreRepliesOf, message_of, messages_of};

@@ -2,7 +2,7 @@
 ghost use Rattle.std.specs.Prelude.{◌≡◌, ◌∷◌, pos, true, Some, OnOk, OnErr, IfOk, [], if◌then◌else◌};
 ghost use Rattle.cf_chain.specs.{replies_to};
 ghost use Rattle.cf_peer.specs.{spelled};
-ghost use Rattle.cf_msg.specs.Message.{is_version as version_is};
+ghost use Rattle.cf_msg.specs.{is_version as version_is};
 ghost use Rattle.cf_played.specs.Answers.{is_answered as is_heard, frames_from, heard_of, is_plain};
 ghost use Rattle.cf_played.specs.Frames.{AreFramesAlike, machine};
 ghost use Rattle.cf_played.specs.Players.{IsAnswered};

@@ -1,8 +1,7 @@
 //! How far one question goes.
 ghost use Rattle.std.specs.Prelude.{◌≡◌, ◌+◌, ◌<◌, ◌≤◌, None, IsSome, length};
 ghost use Rattle.cf_dispute.specs.{tables_of};
-ghost use Rattle.cf_headers.specs.{hash_at, own_of};
-ghost use Rattle.cf_headers.specs.Chain.{IsAbove};
+ghost use Rattle.cf_headers.specs.{hash_at, own_of, IsAbove};
 ghost use Rattle.cf_seek.specs.Ends.{AreUnclaimed, IsLastUnclaimed};
 
 use crate::known::Known;

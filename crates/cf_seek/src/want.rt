@@ -1,9 +1,8 @@
 //! What a peer is to be asked for next.
 ghost use Rattle.std.specs.Prelude.{◌≡◌, ◌+◌, ◌<◌, ◌≤◌, None, IsSome, length, max};
 ghost use Rattle.cf_dispute.specs.{tables_of};
-ghost use Rattle.cf_headers.specs.{hash_at, own_of};
+ghost use Rattle.cf_headers.specs.{hash_at, own_of, IsAbove};
 ghost use Rattle.cf_tables.specs.{AreClaimed};
-ghost use Rattle.cf_headers.specs.Chain.{IsAbove};
 
 use crate::known::Known;
 use cf_bytes::PeerNo;

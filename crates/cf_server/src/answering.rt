@@ -1,7 +1,7 @@
 //! What is answered to a message.
 ghost use Rattle.std.specs.Prelude.{◌≡◌, ℕ, ◌||◌, false, take, OnOk, OnErr};
 ghost use Rattle.cf_chain.specs.{replies_to};
-ghost use Rattle.cf_msg.specs.Message.{is_version as version_is};
+ghost use Rattle.cf_msg.specs.{is_version as version_is};
 ghost use Rattle.cf_server.specs.Replies.{Adds};
 
 use crate::plan::plan;

@@ -7,7 +7,7 @@ ghost use Rattle.cf_frame.specs.{IsFrame, spelling};
 ghost use Rattle.cf_msg.specs.declared.msg.Msg.TheVariants.{Block as BlockMessage, Headers as HeadersMessage};
 ghost use Rattle.cf_msg.specs.{IsWithinLimits, frame_of, payload_of};
 ghost use Rattle.cf_chain.specs.{first_filtered, filters_of, filter_at, IsGoodChain, all_blocks, block_height, version_reply, cfilter_of, cfheaders_of, cfcheckpt_of, header_or_zeros as header_shown, header_before as header_shown_before, thousands};
-ghost use Rattle.cf_headers.specs.Chain.{height_limit};
+ghost use Rattle.cf_headers.specs.{height_limit};
 ghost use Rattle.cf_filter.specs.{filter_hash_of};
 ghost use Rattle.cf_server.specs.Replies.{IsReplyOf, message_of};
 

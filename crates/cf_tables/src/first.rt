@@ -1,7 +1,7 @@
 //! The hash of the first block.
 ghost use Rattle.std.specs.Prelude.{◌≡◌, true, false};
 ghost use Rattle.cf_block.specs.{block_hash_of, genesis_header};
-ghost use Rattle.cf_headers.specs.Chain.{IsAbove};
+ghost use Rattle.cf_headers.specs.{IsAbove};
 
 use cf_block::{block_hash, genesis_header};
 use cf_bytes::Hash32;

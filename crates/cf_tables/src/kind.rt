@@ -4,12 +4,11 @@ ghost use Rattle.cf_tables.specs.declared.kind.BlockKind.{BlockKind};
 ghost use Rattle.cf_tables.specs.declared.kind.BlockKind.TheVariants.{Done, Unjudged};
 ghost use Rattle.cf_dispute.specs.{tables_of, IsAt, blocks_of};
 ghost use Rattle.cf_dispute.specs.declared.claim.At.TheVariants.{Differ};
-ghost use Rattle.cf_headers.specs.{IsIn};
+ghost use Rattle.cf_headers.specs.{IsIn, IsAbove};
 ghost use Rattle.cf_tables.specs.Extracts.{table_in};
 ghost use Rattle.cf_tables.specs.Judged.{verdicts_in};
 ghost use Rattle.cf_tables.specs.Known.{ExtractTable};
 ghost use Rattle.cf_tables.specs.Wanting.{IsDone, IsKind, IsKindAbove};
-ghost use Rattle.cf_headers.specs.Chain.{IsAbove};
 
 use crate::extracts::Extracts;
 use crate::first::First;

@@ -1,9 +1,8 @@
 //! The checks of a block that is to stand on a chain.
 ghost use Rattle.std.specs.Prelude.{◌≡◌, ◌<◌, IfOk, OnOk};
 ghost use Rattle.cf_block.specs.{IsBlock, AreTxids, commit_fault, block_hash_of};
-ghost use Rattle.cf_headers.specs.{fault_with};
+ghost use Rattle.cf_headers.specs.{fault_with, height_limit};
 ghost use Rattle.cf_chain.specs.{after_block, prevouts};
-ghost use Rattle.cf_headers.specs.Chain.{height_limit};
 ghost use Rattle.cf_coins.specs.{spend_txs};
 ghost use Rattle.cf_walk.specs.Files.{cause_before_coins, in_header, in_height, in_commitment, in_coins};
 ghost use Rattle.cf_walk.specs.Progress.{FindsCause};

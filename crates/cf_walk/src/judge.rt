@@ -3,7 +3,7 @@ ghost use Rattle.std.specs.Prelude.{◌≡◌, ◌≤◌, ◌<◌, ◌+◌, ◌+
 ghost use Rattle.cf_block.specs.{block_hash_of, IsBlock};
 ghost use Rattle.cf_block.specs.declared.tx.Block.{Block};
 ghost use Rattle.cf_chain.specs.{after_block, prevouts};
-ghost use Rattle.cf_headers.specs.Chain.{height_limit};
+ghost use Rattle.cf_headers.specs.{height_limit};
 ghost use Rattle.cf_walk.specs.Judging.{BeginsWith, StandsOn, Walks, after_by, cause_by, next_by, txids_of};
 ghost use Rattle.cf_walk.specs.Progress.{FindsCause};
 

@@ -1,7 +1,7 @@
 //! The records of a file of blocks.
 ghost use Rattle.std.specs.Prelude.{◌≡◌, ◌++◌, ◌+◌, ◌≤◌, ◌<◌, IfOk, Err, length};
 ghost use Rattle.std.specs.Int.{w32, to_le_bytes};
-ghost use Rattle.cf_bytes.specs.Magic.{magic};
+ghost use Rattle.cf_bytes.specs.{magic};
 ghost use Rattle.cf_walk.specs.Records.{record_with, max_record, magic_at, length_at, head_at, text_at, record_at, Takes};
 ghost use Rattle.cf_walk.specs.declared.cause.RecordCause.TheVariants as causes;
 
