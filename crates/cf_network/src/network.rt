@@ -180,7 +180,7 @@ impl<R: Wait + Threads + Copy + Drop> Network<R> {
     pub fn is_closed(&self, p: PeerNo) -> bool {
         matches!(
             self.passed.stand(p),
-            Some(Stand::Unsent | Stand::Late(_) | Stand::Closed(_))
+            Some(Stand::SendFailed | Stand::Overdue(_) | Stand::Closed(_))
         )
     }
 
@@ -227,7 +227,7 @@ impl<R: Wait + Threads + Copy + Drop> Wires for Network<R> {
         self.passed.note_sent(p, bytes);
         let answer = self.hub.send(p, bytes);
         if matches!(answer, Err(WireFail::Failed)) {
-            self.passed.note_stand(p, Stand::Unsent);
+            self.passed.note_stand(p, Stand::SendFailed);
         }
         answer
     }

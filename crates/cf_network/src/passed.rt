@@ -89,9 +89,9 @@ pub(crate) enum Stand {
     #[error("gone")]
     Gone,
     #[error("closed: SendFailed")]
-    Unsent,
+    SendFailed,
     #[error("closed: Overdue, waiting for {0}")]
-    Late(Asked),
+    Overdue(Asked),
     // With the filters for which that peer was asked last whose delivery was taken before.
     #[error("closed for what it sent")]
     Closed(Option<FilterSpan>),
@@ -173,7 +173,7 @@ impl Passed {
     /// A peer is closed: where time was the last that was delivered, since it was late.
     pub(crate) fn note_closed(&mut self, p: PeerNo) {
         let stand = match self.asked.get(p.0 as usize) {
-            Some(asked) if self.at_tick => Stand::Late(*asked),
+            Some(asked) if self.at_tick => Stand::Overdue(*asked),
             _ => Stand::Closed(self.heard_of()),
         };
         self.note_stand(p, stand);
@@ -242,7 +242,7 @@ impl Passed {
     /// What a peer was asked for that was closed since it was late with that.
     pub(crate) fn waited_for(&self, p: PeerNo) -> Option<Asked> {
         match self.stand(p) {
-            Some(Stand::Late(asked)) => Some(asked),
+            Some(Stand::Overdue(asked)) => Some(asked),
             _ => None,
         }
     }
