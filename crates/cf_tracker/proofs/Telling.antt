@@ -93,13 +93,6 @@ book_more table before after ws now height hash high is pushed was later keeps =
     (subst (λ (b : Placed). Stands after (b ∷ reverse (placed_written later 1 ws))) block
     (pushed (reverse (placed_written later 1 ws)) (was later keeps))))
 
--- the same blocks, and the same that its book stands for
-pub book_same : (table : ExtractTable) (before after : Book) (ws now : List Written) → now ≡ ws
-    → ((blocks : List Placed) → Stands before blocks → Stands after blocks) → IsBookOf table before ws → IsBookOf table after now
-book_same table before after ws now is stands was later keeps =
-    subst (λ (xs : List Written). Stands after (reverse (placed_written later 1 xs))) (sym is)
-    (stands (reverse (placed_written later 1 ws)) (was later keeps))
-
 -- a block is taken away
 pub book_less : (table : ExtractTable) (before after : Book) (ws now : List Written) (w : Written) → ws ≡ now ++ w ∷ []
     → ((block : Placed) (blocks : List Placed) → Stands before (block ∷ blocks) → Stands after blocks)
