@@ -6,7 +6,7 @@ use Rattle.cf_peer.specs.declared.peer.Reaction.TheVariants.{Nothing as NoReply,
 use Rattle.cf_seek.specs.Testing.{AreUnexposed, IsExposed}
 use Rattle.cf_hear.specs.declared.stop.HearStop.{HearStop}
 use Rattle.cf_hear.specs.declared.stop.HearStop.TheVariants.{Fault, Exposed}
-use Rattle.cf_hear.specs.Seen.{Seen}
+use Rattle.cf_tracker.specs.Seen.{Seen}
 
 -- p is exposed by its claim of this block
 abbrev pub IsExposedIn : Seen → ℕ → Hash → Hash → Type 0
