@@ -27,7 +27,7 @@ use Rattle.cf_peer.specs.Asking.{FiltersOpen, NothingOpen, blocks_from, claims_a
 use Rattle.cf_peer.specs.Peer.{Holds, heard_out, wants, is_idle_peer, asked_for_headers, asked_for_claims, asked_for_filters, asked_for_block}
 use Rattle.cf_peer.proofs.Peers.{idle_request, asked_claims_holds, asked_filters_holds, asked_block_holds}
 use Rattle.cf_sync.specs.Fetching.{IsConnected, MaySendIn, IsNeeded, Rule, blocks_open, filters_open}
-use Rattle.cf_holds.specs.Kept.{AimsAt}
+use Rattle.cf_holds.specs.HeldTests.{AimsAt}
 use Rattle.cf_holds.specs.Known.{OpensAt}
 use Rattle.cf_sync.proofs.Counted.{same_use}
 use Rattle.cf_holds.proofs.KeptOpens.{opens_block, opens_filters}

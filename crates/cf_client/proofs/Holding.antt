@@ -34,7 +34,7 @@ use Rattle.cf_peer.specs.Asking.{OpenRequest, NothingOpen, HeadersOpen, ClaimsOp
 use Rattle.cf_sync.specs.Fetching.{RightlyIn, IsFetchedHash}
 use Rattle.cf_holds.specs.Known.{HoldsFetched, HoldsClaims, HoldsGiven, claims_kept}
 use Rattle.cf_sync.specs.Honesty.{was_called}
-use Rattle.cf_holds.specs.Kept.{HoldsOutputs}
+use Rattle.cf_holds.specs.HeldTests.{HoldsOutputs}
 use Rattle.cf_sync.proofs.Answered.{given_wide}
 use Rattle.cf_sync.proofs.Listed.{in_left, in_right}
 use Rattle.cf_sync.proofs.Remembers.{AskedRightlyIn, asked_rightly_in}

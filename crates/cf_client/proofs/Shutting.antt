@@ -16,7 +16,7 @@ use Rattle.cf_wires.specs.declared.event.Mark.TheVariants as mark
 use Rattle.cf_wires.specs.Log.{Log, tally_of}
 use Rattle.cf_sync.specs.Blame.{HasOmitted}
 use Rattle.cf_sync.specs.Fetching.{IsOmitting, Rule}
-use Rattle.cf_holds.specs.Kept.{KeepsTrials}
+use Rattle.cf_holds.specs.HeldTests.{KeepsTrials}
 use Rattle.cf_sync.proofs.Blamed.{tested_stays}
 use Rattle.cf_sync.proofs.Grows.{fetched_stays}
 use Rattle.cf_holds.proofs.KeptAims.{trials_stay}

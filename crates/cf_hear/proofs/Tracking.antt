@@ -21,7 +21,7 @@ use Rattle.cf_peer.specs.Trail.{Trail, Part, Asked, Lost, part_of, trail, went_o
 use Rattle.cf_peer.specs.Asking.{NothingOpen, claims, counted, request, fetched_blocks, given_filters, SameUse}
 use Rattle.cf_sync.specs.Fetching.{IsConnected, IsFetched, blocks_open, filters_open}
 use Rattle.cf_holds.specs.Known.{HoldsFetched, HoldsClaims, HoldsGiven, HoldsOpens, OpensAt, claims_kept}
-use Rattle.cf_holds.specs.Kept.{AimsAt, HoldsTrials}
+use Rattle.cf_holds.specs.HeldTests.{AimsAt, HoldsTrials}
 use Rattle.cf_sync.specs.Planned.{IsSameGiven}
 use Rattle.cf_sync.proofs.Answered.{none_came_same_given}
 use Rattle.cf_holds.proofs.KeptAims.{IsNoQuestion, aims_other, trials_piece, trials_same, trials_sent, trials_stay}

@@ -28,7 +28,7 @@ use Rattle.cf_tables.specs.Tests.{IsSameTold}
 use Rattle.cf_tables.specs.Known.{TestResults}
 use Rattle.cf_tables.specs.Trials.{Trials, TrialsGo, tested_if, with_paid}
 use Rattle.cf_sync.specs.Fetching.{AreFiltersWanted, IsConnected, IsFetchedHash, IsNoPiece, IsTest, IsTested, IsTestedWith, IsTestOf, IsSameFetched, blocks_in, counted_part, filters_open, test_after}
-use Rattle.cf_holds.specs.Kept.{AimsAt, AreClean, HoldsOutputs, HoldsTrials, IsNoSend}
+use Rattle.cf_holds.specs.HeldTests.{AimsAt, AreClean, HoldsOutputs, HoldsTrials, IsNoSend}
 use Rattle.cf_holds.specs.Known.{HoldsTests}
 use Rattle.cf_headers.proofs.Found.{back_ends}
 use Rattle.cf_sync.proofs.Deaf.{heard_deaf, heard_on}

@@ -15,7 +15,7 @@ use Rattle.cf_peer.specs.Asking.{counted, given_filters, request}
 use Rattle.cf_peer.specs.Trail.{Part, is_connected, part_of, trail}
 use Rattle.cf_tables.specs.Trials.{Trials, judged_if}
 use Rattle.cf_sync.specs.Fetching.{counted_part, filters_open, IsConnected, IsGiven, IsTest}
-use Rattle.cf_holds.specs.Kept.{HoldsTrials}
+use Rattle.cf_holds.specs.HeldTests.{HoldsTrials}
 use Rattle.cf_holds.specs.Known.{HoldsGiven}
 use Rattle.cf_sync.proofs.Answered.{given_stays}
 use Rattle.cf_sync.proofs.Deaf.{heard_deaf}

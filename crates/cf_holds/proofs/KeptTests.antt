@@ -35,7 +35,7 @@ use Rattle.cf_headers.proofs.Commons.{common_low}
 use Rattle.cf_headers.proofs.Found.{back_ends, found_low}
 use Rattle.cf_sync.specs.Fetching.{counted_part, IsConnected, IsDisputed, IsFetched, IsFetchedHash, IsNoPiece, IsOmission, IsSameFetched, IsTest, IsTested, IsTestedWith, IsTestOf, IsTestWanted, RightlyIn, IsTestedThrough}
 use Rattle.cf_holds.specs.Known.{HoldsFetched, HoldsClaims, HoldsTests}
-use Rattle.cf_holds.specs.Kept.{AreClean, HoldsOutputs}
+use Rattle.cf_holds.specs.HeldTests.{AreClean, HoldsOutputs}
 use Rattle.cf_sync.proofs.Answered.{fetched_hash_stays, test_fetched}
 use Rattle.cf_sync.proofs.Blamed.{tested_stays}
 use Rattle.cf_sync.proofs.Grows.{fetched_before, fetched_stays}

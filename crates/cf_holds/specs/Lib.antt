@@ -1,3 +1,3 @@
 pub mod Due
-pub mod Kept
+pub mod HeldTests
 pub mod Known

@@ -19,7 +19,7 @@ ghost use Rattle.cf_scan.specs.{history_of};
 ghost use Rattle.cf_tables.specs.{IsSameTable, placed_by, with_blocks, ExtractTable, TestResults, Paid, TrialsGo, judged_if, IsDone, IsToFetch, IsUnjudged};
 ghost use Rattle.cf_sync.specs.{IsOmission, IsTestedWith, IsBlockWanted, IsFilterWanted, IsTestOf, IsSettled, IsConnected, IsNoPiece, IsSameFetched, IsScanOver, RightlyIn, IsAlone, IsBlockOpen, IsFilterOpen, blocks_in, blocks_open, counted_part, filters_open, IsTestedThrough, is_after_tick};
 ghost use Rattle.cf_holds.specs.Known.{HoldsFetched, HoldsClaims, HoldsGiven, HoldsOpens, HoldsTests, OpensAt};
-ghost use Rattle.cf_holds.specs.Kept.{AreClean, HoldsOutputs, HoldsTrials, IsNoSend};
+ghost use Rattle.cf_holds.specs.HeldTests.{AreClean, HoldsOutputs, HoldsTrials, IsNoSend};
 ghost use Rattle.cf_seek.specs.{IsNextTrial, IsTrial, IsBlockFree, IsFilterFree, Closes, IsSameElse, OpensBlock, OpensFilters, IsToAsk, IsToGet};
 ghost use Rattle.cf_tables.specs.Trials.{Trials};
 ghost use Rattle.cf_seek.specs.Opens.{Opens};

@@ -2,7 +2,7 @@
 use Rattle.std.specs.Prelude.{◌+◌, ◌<◌, ◌≤◌, ◌-◌, ◌^◌, Bool, not, vec_len, vec_capacity}
 use Rattle.std.specs.List.{count_by}
 use Rattle.cf_wires.specs.Log.{Told}
-use Rattle.cf_hub.specs.Kept.{kept_log}
+use Rattle.cf_hub.specs.LogKept.{kept_log}
 use Rattle.cf_hub.specs.declared.book.HubLog.{HubLog}
 
 -- what the hub tells by its book: the log where it is kept, always the tally, and whether the hub is finished

@@ -1,4 +1,4 @@
-pub mod Kept
+pub mod LogKept
 pub mod Book
 pub mod Over
 pub mod Gives

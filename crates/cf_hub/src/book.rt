@@ -4,7 +4,7 @@ ghost use Rattle.std.specs.List.{count_by};
 ghost use Rattle.cf_wires.specs.declared.event.Event.TheVariants.{Dialled, NotDialled, Sent, SendFailed, Closed, Took};
 ghost use Rattle.cf_wires.specs.declared.event.Delivery.TheVariants.{Got, Gone, Tick, Ended};
 ghost use Rattle.cf_wires.specs.{Tells, tell, told_finished, longer, was_closed, session_text};
-ghost use Rattle.cf_hub.specs.Kept.{kept_log};
+ghost use Rattle.cf_hub.specs.LogKept.{kept_log};
 
 use cf_bytes::{NoMemory, PLACES, PeerNo};
 use cf_wires::{Delivery, Event, Mark, Name, Piece, put_deliveries, put_dials};

@@ -11,7 +11,7 @@ ghost use Rattle.cf_hub.specs.Over.{AllGone, Heard, HaveEnded, connections, numb
 ghost use Rattle.cf_wires.specs.declared.event.Delivery.TheVariants.{Ended};
 ghost use Rattle.cf_wires.specs.declared.event.Event.TheVariants.{Took, Dialled, NotDialled, Sent, SendFailed, Closed};
 ghost use Rattle.cf_wires.specs.{Tells as IsTold, deliveries, tell, told_finished, was_closed, HasCause};
-ghost use Rattle.cf_hub.specs.Kept.{no_script};
+ghost use Rattle.cf_hub.specs.LogKept.{no_script};
 ghost use Rattle.cf_hub.specs.Finish.{whose, begun, numbers_of, read_numbers, Fronts, pulse_in};
 ghost use Rattle.cf_hub.specs.Gives.{delivery_of, given_of, IsProper, LogGives, IsFront};
 ghost use Rattle.cf_hub.specs.Lines.{Down, IsTickers, Ring, Up, Waits};

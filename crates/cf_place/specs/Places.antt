@@ -22,7 +22,7 @@ use Rattle.cf_peer.specs.Peer.{Holds, calm, busy, wants, is_ready_peer, is_idle_
 use Rattle.cf_sync.specs.Blame.{HasOmitted}
 use Rattle.cf_sync.specs.Fetching.{MaySendIn, DeservesIn, RightlyIn, Rule}
 use Rattle.cf_holds.specs.Due.{IsCalledFor}
-use Rattle.cf_holds.specs.Kept.{KeepsTrials}
+use Rattle.cf_holds.specs.HeldTests.{KeepsTrials}
 use Rattle.cf_sync.specs.Planned.{IsSameGiven}
 use Rattle.cf_place.specs.declared.place.Place.{Place}
 use Rattle.cf_place.specs.declared.place.Place.TheVariants.{Here, Lost}
