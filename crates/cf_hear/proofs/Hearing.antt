@@ -60,7 +60,7 @@ use Rattle.cf_seek.specs.Opening.{Closes, IsSameElse, IsSameOpens}
 use Rattle.cf_holds.specs.Known.{OpensAt}
 use Rattle.cf_holds.proofs.KeptOpens.{opens_closed}
 use Rattle.cf_hear.specs.Seen.{Seen, IsSameSeen, Follows}
-use Rattle.cf_hear.specs.Hearing.{Gains, Gives, Retains, HearsSeen, HearsNext, Advances, Reveals, Stops, Brings, Midway, HeardFault, HeardExposed, HeardPiece, AreReplies}
+use Rattle.cf_hear.specs.Hearing.{Gains, Gives, Retains, HearsSeen, HearsNext, LeavesOthers, Advances, Reveals, Stops, Brings, Midway, HeardFault, HeardExposed, HeardPiece, AreReplies}
 use Rattle.cf_hear.specs.Exposing.{ExposesAmong, IsUnexposed}
 use Rattle.cf_hear.specs.declared.stop.HearStop.{HearStop}
 use Rattle.cf_hear.proofs.Trying.{IsOnce, gives_on, go_none, go_on, go_self, go_then, idle_by, once_by, one_empty, trials_self}
@@ -134,6 +134,32 @@ gains_retains a b c p t news jobs x y = record {
   verdicts = λ block hash. y.verdicts block hash ∙ x.verdicts block hash;
   opens = else_then a.opens b.opens c.opens p.0 x.opens (else_of b.opens c.opens p.0 y.opens);
   trials = go_on a.trials b.trials c.trials p.0 news jobs x.trials y.trials;
+}
+
+-- ---- what was seen of others
+
+pub leaves_self : (p : ℕ) (s : Seen) → IsSome (s.chains p) → LeavesOthers p s s
+leaves_self p s entered =
+    record { entered = entered; chains = λ q ne. refl; claims = λ q ne block. refl; watch = refl }
+
+pub leaves_then : (p : ℕ) (a b c : Seen) → LeavesOthers p a b → LeavesOthers p b c → LeavesOthers p a c
+leaves_then p a b c x y = record {
+  entered = y.entered;
+  chains = λ q ne. y.chains q ne ∙ x.chains q ne;
+  claims = λ q ne block. y.claims q ne block ∙ x.claims q ne block;
+  watch = y.watch ∙ x.watch;
+}
+
+-- no chain changed, nor what others claim
+pub leaves_chains : (p : ℕ) (before after : Seen) → IsSome (before.chains p)
+    → ((q : ℕ) → after.chains q ≡ before.chains q)
+    → ((q : ℕ) → q ≢ p → (block : Hash) → after.claims q block ≡ before.claims q block)
+    → after.watch ≡ before.watch → LeavesOthers p before after
+leaves_chains p before after entered chains claims watch = record {
+  entered = subst IsSome (sym (chains p)) entered;
+  chains = λ q ne. chains q;
+  claims = claims;
+  watch = watch;
 }
 
 -- ---- one message

@@ -10,7 +10,7 @@ use Rattle.cf_tracker.specs.Tracker.{aims_of, claims_of, opens_of, trials_of, ve
 use Rattle.cf_hear.specs.Judging.{judging_of}
 use Rattle.cf_hear.specs.Seen.{seen_of}
 use Rattle.cf_hear.proofs.Exposing.{exposes_filter}
-use Rattle.cf_hear.proofs.Hearing.{filter_hears, may_expose, none_judged, right_same, same_seen}
+use Rattle.cf_hear.proofs.Hearing.{filter_hears, leaves_chains, may_expose, none_judged, right_same, same_seen}
 use Rattle.cf_hear.proofs.Judging.{judged_kept}
 use Rattle.cf_hear.proofs.Trying.{go_given, go_self, trials_self}
 use Rattle.cf_hear.proofs.Opening.{else_of, else_self, else_then, opens_filter, opens_on, opens_whole}
@@ -97,11 +97,10 @@ returns-in_ok-take_given-in-Whole-clause-judged g c =
     judged_kept g.M.Matcher.judges (watch_of c.args.tracker.now) (judging_of c.args.tracker.now c.args.matcher.now) (judging_of c.take_given.new.tracker c.take_given.new.matcher)
     (judging_of c.let_go.new.tracker c.take_given.new.matcher) c.in_ok-take_given-in-Whole.ensures.judged (record { same = refl; kept = c.let_go.ensures.verdicts })
 
-pub returns-in_ok-take_given-in-Whole-clause-chains : goal.returns-in_ok-take_given-in-Whole-clause-chains
-returns-in_ok-take_given-in-Whole-clause-chains g c = λ q. c.let_go.ensures.chains q ∙ c.in_ok-take_given-in-Whole.ensures.chains q
-
-pub returns-in_ok-take_given-in-Whole-clause-claims : goal.returns-in_ok-take_given-in-Whole-clause-claims
-returns-in_ok-take_given-in-Whole-clause-claims g c = λ q ne block. c.let_go.ensures.claims q block ∙ c.in_ok-take_given-in-Whole.ensures.claims q block
-
-pub returns-in_ok-take_given-in-Whole-clause-watch : goal.returns-in_ok-take_given-in-Whole-clause-watch
-returns-in_ok-take_given-in-Whole-clause-watch g c = c.let_go.ensures.watch ∙ c.in_ok-take_given-in-Whole.ensures.watch
+pub returns-in_ok-take_given-in-Whole-clause-stays : goal.returns-in_ok-take_given-in-Whole-clause-stays
+returns-in_ok-take_given-in-Whole-clause-stays g c =
+    let kept = c.in_ok-take_given-in-Whole.ensures in
+    let gone = c.let_go.ensures in
+    leaves_chains c.args.p.0 (seen_of c.args.tracker.now) (seen_of c.let_go.new.tracker) c.requires.entered
+    (λ q. gone.chains q ∙ kept.chains q) (λ q ne block. gone.claims q block ∙ kept.claims q block)
+    (gone.watch ∙ kept.watch)
