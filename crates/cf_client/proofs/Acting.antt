@@ -49,7 +49,7 @@ use Rattle.cf_seek.specs.Seeking.{MoreOpens}
 use Rattle.cf_seek.specs.Spans.{IsWish}
 use Rattle.cf_tables.specs.Tables.{IsSameTable}
 use Rattle.cf_tables.specs.Claiming.{IsSameTables}
-use Rattle.cf_hear.specs.Seen.{Seen, IsSameSeen}
+use Rattle.cf_tracker.specs.Seen.{Seen, IsSameSeen}
 use Rattle.cf_hear.specs.Tracks.{HasOpened, IsSameElsewhere, Tracks, IsPut}
 use Rattle.cf_hear.proofs.Opening.{else_of, opens_asked, opens_on}
 use Rattle.cf_hear.proofs.Tracking.{opened_self, tracks_asked, tracks_closed}

@@ -11,7 +11,7 @@ use Rattle.cf_peer.specs.declared.mode.Mode.{Mode}
 use Rattle.cf_wires.specs.Log.{Log}
 use Rattle.cf_place.specs.declared.place.Place.{Place}
 use Rattle.cf_place.specs.Places.{PlacesStand, after}
-use Rattle.cf_hear.specs.Seen.{Seen}
+use Rattle.cf_tracker.specs.Seen.{Seen}
 use Rattle.cf_client.specs.declared.client.Client.{Client}
 use Rattle.cf_client.specs.Settled.{AreRight, AreSettled}
 use Rattle.cf_client.specs.Stands.{Answers, Reflects, seen_by}

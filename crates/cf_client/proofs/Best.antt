@@ -16,7 +16,7 @@ use Rattle.cf_peer.specs.Asking.{SameUse}
 use Rattle.cf_sync.specs.Fetching.{AreShorterBefore, IsConnected, IsBest, Rule, counted_part}
 use Rattle.cf_holds.specs.Due.{IsInTurn, Puts}
 use Rattle.cf_sync.proofs.Counted.{same_use}
-use Rattle.cf_hear.specs.Seen.{Seen}
+use Rattle.cf_tracker.specs.Seen.{Seen}
 use Rattle.cf_hear.specs.Tracks.{Tracks, chain_kept}
 use Rattle.cf_seek.specs.declared.spans.Wish.{Wish}
 use Rattle.cf_seek.specs.Spans.{IsWish, GoesFar}

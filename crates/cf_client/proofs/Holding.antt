@@ -21,7 +21,7 @@ use Rattle.cf_headers.specs.Rules.{same}
 use Rattle.cf_headers.specs.Store.{Chains}
 use Rattle.cf_headers.specs.Counts.{CountsOnce, IsKeptPart}
 use Rattle.cf_headers.proofs.Fewer.{fewer}
-use Rattle.cf_hear.specs.Seen.{Seen}
+use Rattle.cf_tracker.specs.Seen.{Seen}
 use Rattle.cf_hear.specs.Tracks.{Tracks, chain_kept}
 use Rattle.cf_match.specs.declared.job.Job.{Job}
 use Rattle.cf_msg.specs.declared.msg.Msg.{Msg}

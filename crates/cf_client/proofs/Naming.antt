@@ -10,7 +10,7 @@ use Rattle.cf_peer.specs.declared.mode.Mode.TheVariants.{Following}
 use Rattle.cf_wires.specs.Log.{Log}
 use Rattle.cf_sync.specs.Fetching.{IsOmitting, RightlyIn}
 use Rattle.cf_holds.proofs.KeptTests.{holds_all}
-use Rattle.cf_hear.specs.Seen.{Seen}
+use Rattle.cf_tracker.specs.Seen.{Seen}
 use Rattle.cf_hear.specs.Exposing.{IsUnexposed}
 use Rattle.cf_hear.specs.Tracks.{Tracks}
 use Rattle.cf_client.specs.Blameless.{IsBlameless}

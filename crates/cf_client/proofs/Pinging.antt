@@ -13,7 +13,7 @@ use Rattle.cf_peer.specs.Trail.{part_of, trail}
 use Rattle.cf_peer.proofs.Peers.{asked_ping_holds, ping_may}
 use Rattle.cf_sync.specs.Fetching.{Rule, blocks_open, filters_open, is_after_tick}
 use Rattle.cf_wires.specs.Log.{Log}
-use Rattle.cf_hear.specs.Seen.{Seen}
+use Rattle.cf_tracker.specs.Seen.{Seen}
 use Rattle.cf_hear.specs.Tracks.{Tracks}
 use Rattle.cf_hear.proofs.Opening.{opens_asked}
 use Rattle.cf_hear.proofs.Tracking.{opened_self}

@@ -30,7 +30,7 @@ use Rattle.cf_sync.proofs.Counted.{same_use}
 use Rattle.cf_holds.proofs.KeptOpens.{settled_else}
 use Rattle.cf_holds.proofs.Tables.{history_over}
 use Rattle.cf_tables.specs.Wanting.{IsAbove}
-use Rattle.cf_hear.specs.Seen.{Seen}
+use Rattle.cf_tracker.specs.Seen.{Seen}
 use Rattle.cf_hear.specs.Tracks.{Tracks}
 use Rattle.cf_seek.specs.Tracking.{IsBestChain, IsReport}
 use Rattle.cf_place.specs.declared.place.Loss.{Loss}

@@ -31,7 +31,7 @@ use Rattle.cf_seek.specs.Aims.{IsAimed}
 use Rattle.cf_seek.specs.Opens.{Opens}
 use Rattle.cf_seek.specs.Opening.{IsSameElse}
 use Rattle.cf_seek.specs.Spans.{IsAskedFor, IsWish, GoesFar}
-use Rattle.cf_hear.specs.Seen.{Seen, IsSameSeen}
+use Rattle.cf_tracker.specs.Seen.{Seen, IsSameSeen}
 use Rattle.cf_hear.specs.Tracks.{HasOpened, Tracks, IsPut}
 use Rattle.cf_hear.specs.Exposing.{IsUnexposed}
 use Rattle.cf_hear.proofs.Exposing.{unexposed_on, unexposed_put}

@@ -40,7 +40,8 @@ use Rattle.cf_sync.specs.Blame.{HasOmitted}
 use Rattle.cf_sync.proofs.Omitted.{connected_unomitted, words_unnamed}
 use Rattle.cf_hear.specs.Hearing.{HeardWhole, HeardFault, HeardExposed}
 use Rattle.cf_hear.specs.Exposing.{IsUnexposed}
-use Rattle.cf_hear.specs.Seen.{Seen, Follows}
+use Rattle.cf_hear.specs.Seen.{Follows}
+use Rattle.cf_tracker.specs.Seen.{Seen}
 use Rattle.cf_hear.proofs.Exposing.{unexposed_put}
 use Rattle.cf_hear.specs.Tracks.{Tracks, IsPut}
 use Rattle.cf_hear.proofs.Tracking.{tracks_sent, tracks_closed, tracks_gone, tracks_away, tracks_tick, tracks_ended, tracks_lost, tracks_deaf, tracks_heard, tracks_faulty, put_off}

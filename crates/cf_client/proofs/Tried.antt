@@ -13,7 +13,7 @@ use Rattle.cf_headers.proofs.Commons.{common_low}
 use Rattle.cf_headers.proofs.Found.{back_ends, found_low}
 use Rattle.cf_sync.specs.Fetching.{counted_part, IsAbove, IsConnected, IsDisputed, IsFetchedHash, IsTestedThrough, IsTestedWith}
 use Rattle.cf_holds.proofs.Kept.{by_claims}
-use Rattle.cf_hear.specs.Seen.{Seen}
+use Rattle.cf_tracker.specs.Seen.{Seen}
 use Rattle.cf_hear.specs.Tracks.{Tracks}
 use Rattle.cf_client.specs.Settled.{IsTriedThrough}
 

@@ -7,7 +7,7 @@ use Rattle.cf_filter.specs.Filter.{filter_hash_of}
 use Rattle.cf_headers.specs.Chain.{Chain, Hash, IsIn, IsPart}
 use Rattle.cf_headers.specs.Counts.{AreApart}
 use Rattle.cf_headers.specs.Store.{Chains}
-use Rattle.cf_hear.specs.Seen.{Seen}
+use Rattle.cf_tracker.specs.Seen.{Seen}
 use Rattle.cf_hear.specs.Tracks.{chain_kept}
 use Rattle.cf_match.specs.declared.job.Job.{Job}
 use Rattle.cf_msg.specs.declared.msg.Msg.{Msg}

@@ -5,7 +5,7 @@ use Rattle.cf_dispute.specs.Claims.{Table, Tables}
 use Rattle.cf_headers.specs.Chain.{Chain, Hash}
 use Rattle.cf_headers.specs.Heights.{common_of}
 use Rattle.cf_headers.specs.Store.{IsBest}
-use Rattle.cf_hear.specs.Seen.{Seen}
+use Rattle.cf_tracker.specs.Seen.{Seen}
 use Rattle.cf_match.specs.Verdicts.{Verdicts}
 use Rattle.cf_peer.specs.declared.mode.Mode.{Mode}
 use Rattle.cf_peer.specs.Peer.{IsRight}

@@ -24,7 +24,7 @@ use Rattle.cf_place.specs.Standing.{Greeting}
 use Rattle.cf_tracker.specs.Tracker.{watch_of}
 use Rattle.cf_hear.specs.Judging.{Judging, judging_of}
 use Rattle.cf_hear.specs.Exposing.{IsUnexposed}
-use Rattle.cf_hear.specs.Seen.{Seen, seen_of}
+use Rattle.cf_tracker.specs.Seen.{Seen, seen_of}
 use Rattle.cf_hear.specs.Tracks.{Tracks}
 
 -- what the client has seen, over its store's chains

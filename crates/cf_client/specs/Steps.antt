@@ -26,7 +26,7 @@ use Rattle.cf_tracker.specs.declared.tracker.Tracker.{Tracker}
 use Rattle.cf_place.specs.declared.place.Place.{Place}
 use Rattle.cf_place.specs.declared.place.Place.TheVariants.{Here, Lost}
 use Rattle.cf_place.specs.Places.{Goes, AreCalm, AsksFor, CutFor, after, is_idle, is_settled, place_at}
-use Rattle.cf_hear.specs.Seen.{Seen, seen_of}
+use Rattle.cf_tracker.specs.Seen.{Seen, seen_of}
 use Rattle.cf_hear.specs.Exposing.{IsUnexposed}
 use Rattle.cf_hear.specs.Tracks.{HasOpened, Tracks}
 use Rattle.cf_client.specs.Settled.{AreEntered, AreRight}

@@ -4,8 +4,8 @@ ghost use Rattle.std.specs.List.{list_any, All, count_by};
 ghost use Rattle.cf_peer.specs.{IsDoable};
 ghost use Rattle.cf_place.specs.{state_of, is_busy, is_here, IsGreeting, end_of, TellsGreeting};
 ghost use Rattle.cf_client.specs.Settled.{AreSettled, AreRight};
-ghost use Rattle.cf_hear.specs.{seen_of, AreJudgedBy, IsUnjudged};
-ghost use Rattle.cf_tracker.specs.{claims_of};
+ghost use Rattle.cf_hear.specs.{AreJudgedBy, IsUnjudged};
+ghost use Rattle.cf_tracker.specs.{claims_of, seen_of};
 
 use crate::ask::ask_all;
 use crate::deliver::{cut_off, deliver};

@@ -3,7 +3,7 @@ ghost use Rattle.std.specs.Prelude.{◌≡◌, ◌≤◌, length};
 ghost use Rattle.std.specs.List.{sum_by};
 ghost use Rattle.cf_block.specs.{capped};
 ghost use Rattle.cf_wires.specs.Log.{Log};
-ghost use Rattle.cf_hear.specs.{seen_of};
+ghost use Rattle.cf_tracker.specs.{seen_of};
 ghost use Rattle.cf_hear.specs.Tracks.{Tracks};
 ghost use Rattle.cf_place.specs.{PlacesStand};
 ghost use Rattle.cf_client.specs.Holding.{Counts, HoldsNoMore, came_at, waiting_at, most_at};

@@ -23,7 +23,8 @@ use Rattle.cf_tables.specs.Known.{TestResults}
 use Rattle.cf_tables.specs.Trials.{tested_if}
 use Rattle.cf_tables.specs.Claiming.{IsSameTables}
 use Rattle.cf_sync.proofs.FreshFilters.{one_given}
-use Rattle.cf_hear.specs.Seen.{Seen, Follows}
+use Rattle.cf_hear.specs.Seen.{Follows}
+use Rattle.cf_tracker.specs.Seen.{Seen}
 use Rattle.cf_hear.specs.Tracks.{IsPut}
 use Rattle.cf_hear.specs.Exposing.{Exposes, ExposesAmong, IsExposedIn, IsUnexposed}
 

@@ -59,7 +59,8 @@ use Rattle.cf_peer.specs.declared.peer.Request.TheVariants.{Nothing, Handshake, 
 use Rattle.cf_seek.specs.Opening.{Closes, IsSameElse, IsSameOpens}
 use Rattle.cf_holds.specs.Known.{OpensAt}
 use Rattle.cf_holds.proofs.KeptOpens.{opens_closed}
-use Rattle.cf_hear.specs.Seen.{Seen, IsSameSeen, Follows}
+use Rattle.cf_hear.specs.Seen.{Follows}
+use Rattle.cf_tracker.specs.Seen.{Seen, IsSameSeen}
 use Rattle.cf_hear.specs.Hearing.{Gains, Gives, Retains, HearsSeen, HearsNext, LeavesOthers, Advances, Reveals, Stops, Brings, Midway, HeardFault, HeardExposed, HeardPiece, AreReplies}
 use Rattle.cf_hear.specs.Exposing.{ExposesAmong, IsUnexposed}
 use Rattle.cf_hear.specs.declared.stop.HearStop.{HearStop}

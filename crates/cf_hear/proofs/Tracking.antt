@@ -36,7 +36,7 @@ use Rattle.cf_tables.specs.Tables.{IsSameTable}
 use Rattle.cf_tables.specs.Known.{ExtractTable}
 use Rattle.cf_tables.specs.Claiming.{ForgetsClaims, IsSameTables}
 use Rattle.cf_hear.specs.Hearing.{HeardWhole, HeardFault, HeardExposed}
-use Rattle.cf_hear.specs.Seen.{Seen}
+use Rattle.cf_tracker.specs.Seen.{Seen}
 use Rattle.cf_hear.specs.Tracks.{HasOpened, Tracks, IsPut, chain_kept}
 use Rattle.cf_tables.specs.Trials.{IsSameTrials}
 use Rattle.cf_hear.proofs.Trying.{elsewhere_self, go_on, go_self, trials_self}

@@ -40,7 +40,7 @@ use Rattle.cf_seek.proofs.Along.{hash_of_next}
 use Rattle.std.proofs.lemmas.Bool.{cases_lt, both_ways}
 use Rattle.cf_seek.proofs.Stops.{above_part, parent_is}
 use Rattle.cf_headers.proofs.Found.{back_ends, lower_on}
-use Rattle.cf_hear.specs.Seen.{Seen}
+use Rattle.cf_tracker.specs.Seen.{Seen}
 use Rattle.cf_hear.specs.Tracks.{Tracks}
 
 -- a block of a list, by its place

@@ -9,7 +9,8 @@ use Rattle.cf_peer.specs.Trail.{Trail}
 use Rattle.cf_seek.specs.Testing.{AreUnexposed, IsExposed}
 use Rattle.cf_hear.specs.declared.stop.HearStop.{HearStop}
 use Rattle.cf_hear.specs.declared.stop.HearStop.TheVariants.{Fault, Exposed}
-use Rattle.cf_hear.specs.Seen.{Seen, Follows}
+use Rattle.cf_tracker.specs.Seen.{Seen}
+use Rattle.cf_hear.specs.Seen.{Follows}
 
 -- p is exposed by its claim of this block
 abbrev pub IsExposedIn : Seen → ℕ → Hash → Hash → Type 0

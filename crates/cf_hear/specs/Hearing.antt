@@ -25,7 +25,8 @@ use Rattle.cf_seek.specs.Opening.{IsSameElse}
 use Rattle.cf_hear.specs.declared.stop.HearStop.{HearStop}
 use Rattle.cf_hear.specs.declared.stop.HearStop.TheVariants.{Fault, Exposed}
 use Rattle.cf_hear.specs.Exposing.{IsExposedIn, IsUnexposed}
-use Rattle.cf_hear.specs.Seen.{Seen, IsSameSeen, Follows}
+use Rattle.cf_hear.specs.Seen.{Follows}
+use Rattle.cf_tracker.specs.Seen.{Seen, IsSameSeen}
 
 -- p's chain and claims are now those of this trail, and what is open to it; the extracts of these blocks came, the last of them first, and the verdicts on
 -- these filters, the first of them first, where they weren't asked for so that they are tested; and so with what is kept of tests

@@ -19,11 +19,11 @@ use Rattle.cf_scan.specs.Extracts.{after_placed, history_of}
 use Rattle.cf_scan.specs.Scan.{Scanned, unscanned}
 use Rattle.cf_tracker.specs.declared.account.Account.{Account}
 use Rattle.cf_tracker.specs.declared.account.Written.{Written}
-use Rattle.cf_tracker.specs.Account.{IsTold, IsToldBy}
+use Rattle.cf_tracker.specs.Account.{IsAccountOf, IsBookOf}
 use Rattle.cf_tables.specs.Extracts.{with_extract}
 use Rattle.cf_tables.specs.Tables.{IsSameTable, placed_by, placed_one}
 use Rattle.cf_tables.specs.Known.{ExtractTable}
-use Rattle.cf_tracker.specs.Written.{IsWrittenAs, KeepsExtracts, extract_told, placed_written, written_as, written_at}
+use Rattle.cf_tracker.specs.Written.{IsWrittenAs, KeepsExtracts, extract_where, placed_written, written_as, written_at}
 
 -- ---- extracts that are kept
 
@@ -43,21 +43,21 @@ keeps_put extracts more at x (Ok u) ok err hash e is = ok hash ∙ kept_if (same
 keeps_put extracts more at x (Err n) ok err hash e is = err hash ∙ is
 
 -- what is told stays told
-pub told_later : (before after : ExtractTable) (a : Account) → KeepsExtracts before after → ∥ IsTold before a ∥₁
-    → ∥ IsTold after a ∥₁
-told_later before after a keeps t = ∥∥₁_map t (λ told later more. told later (λ hash e is. more hash e (keeps hash e is)))
+pub account_later : (before after : ExtractTable) (a : Account) → KeepsExtracts before after → ∥ IsAccountOf before a ∥₁
+    → ∥ IsAccountOf after a ∥₁
+account_later before after a keeps t = ∥∥₁_map t (λ told later more. told later (λ hash e is. more hash e (keeps hash e is)))
 
 -- ---- one block more
 
 told_next : (table later : ExtractTable) (hash : Hash) → KeepsExtracts table later
-    → extract_told (is_some (table hash)) (later hash) ≡ unwrap_or (table hash) []
+    → extract_where (is_some (table hash)) (later hash) ≡ unwrap_or (table hash) []
 told_next table later hash keeps = by (table hash) refl where
-  by : (o : Option (List TxExtract)) → table hash ≡ o → extract_told (is_some o) (later hash) ≡ unwrap_or o []
+  by : (o : Option (List TxExtract)) → table hash ≡ o → extract_where (is_some o) (later hash) ≡ unwrap_or o []
   by None e = refl
-  by (Some x) e = ap (extract_told true) (keeps hash x e)
+  by (Some x) e = ap (extract_where true) (keeps hash x e)
 
 abbrev placed_next : ExtractTable → ℕ → Written → Placed
-placed_next table height w = record { height = height; extract = extract_told w.told (table w.hash.0) }
+placed_next table height w = record { height = height; extract = extract_where w.has_extract (table w.hash.0) }
 
 placed_more : (table : ExtractTable) (height : ℕ) (ws : List Written) (w : Written)
     → placed_written table height (ws ++ w ∷ []) ≡ placed_written table height ws ++ placed_next table (height + length ws) w ∷ []
@@ -72,18 +72,18 @@ newest table ws w = ap reverse (placed_more table 1 ws w) ∙ reverse-append (pl
 
 -- what is written of a block
 pub written_is : (table : ExtractTable) (hash : Hash32) (told : Bool) (ws now : List Written) → told ≡ is_some (table hash.0)
-    → now ≡ ws ++ record { hash = hash; told = told } ∷ [] → now ≡ ws ++ written_as table hash.0 ∷ []
+    → now ≡ ws ++ record { hash = hash; has_extract = told } ∷ [] → now ≡ ws ++ written_as table hash.0 ∷ []
 written_is table hash told ws now has is = is ∙ ap (λ (b : Bool). ws ++ block b ∷ []) has where
   block : Bool → Written
-  block b = record { hash = hash; told = b }
+  block b = record { hash = hash; has_extract = b }
 
 -- a block is written
-pub told_more : (table : ExtractTable) (before after : Book) (ws now : List Written) (height : ℕ) (hash : Hash)
+pub book_more : (table : ExtractTable) (before after : Book) (ws now : List Written) (height : ℕ) (hash : Hash)
     → height ≡ length ws + 1 → now ≡ ws ++ written_as table hash ∷ []
     → ((blocks : List Placed) → Stands before blocks
     → Stands after (record { height = height; extract = unwrap_or (table hash) [] } ∷ blocks))
-    → IsToldBy table before ws → IsToldBy table after now
-told_more table before after ws now height hash high is pushed told later keeps =
+    → IsBookOf table before ws → IsBookOf table after now
+book_more table before after ws now height hash high is pushed told later keeps =
     let n : height ≡ 1 + length ws = omega (arith, high) in
     let w = written_as table hash in
     let block : ◌≡◌ {A = Placed} (record { height = height; extract = unwrap_or (table hash) [] }) (placed_next later (1 + length ws) w) =
@@ -94,17 +94,17 @@ told_more table before after ws now height hash high is pushed told later keeps 
     (pushed (reverse (placed_written later 1 ws)) (told later keeps))))
 
 -- the same blocks, and the same that its book stands for
-pub told_same : (table : ExtractTable) (before after : Book) (ws now : List Written) → now ≡ ws
-    → ((blocks : List Placed) → Stands before blocks → Stands after blocks) → IsToldBy table before ws → IsToldBy table after now
-told_same table before after ws now is stands told later keeps =
+pub book_same : (table : ExtractTable) (before after : Book) (ws now : List Written) → now ≡ ws
+    → ((blocks : List Placed) → Stands before blocks → Stands after blocks) → IsBookOf table before ws → IsBookOf table after now
+book_same table before after ws now is stands told later keeps =
     subst (λ (xs : List Written). Stands after (reverse (placed_written later 1 xs))) (sym is)
     (stands (reverse (placed_written later 1 ws)) (told later keeps))
 
 -- a block is taken away
-pub told_less : (table : ExtractTable) (before after : Book) (ws now : List Written) (w : Written) → ws ≡ now ++ w ∷ []
+pub book_less : (table : ExtractTable) (before after : Book) (ws now : List Written) (w : Written) → ws ≡ now ++ w ∷ []
     → ((block : Placed) (blocks : List Placed) → Stands before (block ∷ blocks) → Stands after blocks)
-    → IsToldBy table before ws → IsToldBy table after now
-told_less table before after ws now w is popped told later keeps =
+    → IsBookOf table before ws → IsBookOf table after now
+book_less table before after ws now w is popped told later keeps =
     popped (placed_next later (1 + length now) w) (reverse (placed_written later 1 now))
     (subst (Stands before) (newest later now w)
     (subst (λ (xs : List Written). Stands before (reverse (placed_written later 1 xs))) is (told later keeps)))
@@ -122,12 +122,12 @@ told_one : (table : ExtractTable) (hash : Hash) (w : Written) (height : ℕ) (s 
     → ((n : Scanned) → fold after_placed n xs ≡ fold after_placed n ys) → (o : Option (List TxExtract)) → table hash ≡ o
     → fold after_placed s (placed_next table height w ∷ xs) ≡ fold after_placed s (placed_one height o ++ ys)
 told_one table hash w height s xs ys here later None e =
-    let none : extract_told w.told (table w.hash.0) ≡ [] = ap (λ (b : Bool). extract_told b (table w.hash.0)) (here.told ∙ ap is_some e) in
+    let none : extract_where w.has_extract (table w.hash.0) ≡ [] = ap (λ (b : Bool). extract_where b (table w.hash.0)) (here.has_extract ∙ ap is_some e) in
     ap (λ (x : List TxExtract). fold after_placed (after_placed s (record { height = height; extract = x })) xs) none
     ∙ ap (λ (n : Scanned). fold after_placed n xs) (tells_nothing s height)
     ∙ later s
 told_one table hash w height s xs ys here later (Some x) e =
-    let some : extract_told w.told (table w.hash.0) ≡ x = ap (λ (b : Bool). extract_told b (table w.hash.0)) (here.told ∙ ap is_some e) ∙ ap (λ (g : Hash). unwrap_or (table g) []) here.is
+    let some : extract_where w.has_extract (table w.hash.0) ≡ x = ap (λ (b : Bool). extract_where b (table w.hash.0)) (here.has_extract ∙ ap is_some e) ∙ ap (λ (g : Hash). unwrap_or (table g) []) here.is
     ∙ ap (λ (o : Option (List TxExtract)). unwrap_or o []) e in
     ap (λ (y : List TxExtract). fold after_placed (after_placed s (record { height = height; extract = y })) xs) some
     ∙ later (after_placed s (record { height = height; extract = x }))
@@ -152,19 +152,19 @@ entries_prop : (a b : List Entry) → IsProp (a ≡ b)
 entries_prop a b = hlevel props
 
 -- the book's history
-pub history_told : (table : ExtractTable) (a : Account) (entries : List Entry)
-    → ((blocks : List Placed) → Stands a.book blocks → entries ≡ history_of (reverse blocks)) → IsTold table a
+pub history_by : (table : ExtractTable) (a : Account) (entries : List Entry)
+    → ((blocks : List Placed) → Stands a.book blocks → entries ≡ history_of (reverse blocks)) → IsAccountOf table a
     → entries ≡ history_of (placed_written table 1 a.written.items)
-history_told table a entries tells told =
+history_by table a entries tells told =
     tells (reverse (placed_written table 1 a.written.items)) (told table (keeps_self table)) ∙ ap history_of (reverse-reverse (placed_written table 1 a.written.items))
 
 -- the same where that the book stands for it isn't told
 pub history_opened : (table : ExtractTable) (a : Account) (entries : List Entry)
-    → (IsTold table a → entries ≡ history_of (placed_written table 1 a.written.items)) → ∥ IsTold table a ∥₁
+    → (IsAccountOf table a → entries ≡ history_of (placed_written table 1 a.written.items)) → ∥ IsAccountOf table a ∥₁
     → entries ≡ history_of (placed_written table 1 a.written.items)
 history_opened table a entries is t = ∥∥₁_elim t (entries_prop entries (history_of (placed_written table 1 a.written.items))) is
 
 -- the book stands for what is written
-pub stands_now : (table : ExtractTable) (a : Account) → ∥ IsTold table a ∥₁
+pub stands_now : (table : ExtractTable) (a : Account) → ∥ IsAccountOf table a ∥₁
     → ∥ Stands a.book (reverse (placed_written table 1 a.written.items)) ∥₁
 stands_now table a t = ∥∥₁_map t (λ told. told table (keeps_self table))

@@ -82,7 +82,7 @@ written_push table own before after height hash is long lt at to = record {
         let here : h ≡ height = omega (arith, low, ge) in
         subst (λ (k : ℕ). IsWrittenAs table (hash_at own (k + 1)) (written_at after k)) (sym here)
         (subst (IsWrittenAs table (hash_at own (height + 1))) (sym (ap (λ (l : List Written). written_at l height) is ∙ get_or_push before (written_as table hash) _ height long))
-        (record { is = at; told = ap (λ (x : Hash). is_some (table x)) at }))
+        (record { is = at; has_extract = ap (λ (x : Hash). is_some (table x)) at }))
         )
   ];
 } where
@@ -240,7 +240,7 @@ up_to_put extracts more chains written q r height low at x result ok err same1 l
         each = λ h lt.
             let was = to.each h (omega (arith, lt, le)) in
             let else1 = put_else extracts more at x result ok err (hash_at own (h + 1)) (λ is. apart own e (h + 1) (omega arith) (omega (arith, lt)) (sym is)) in
-            record { is = was.is; told = was.told ∙ ap is_some (sym else1) };
+            record { is = was.is; has_extract = was.has_extract ∙ ap is_some (sym else1) };
       };
 })
 

@@ -12,10 +12,10 @@ abbrev pub written_in : Account → List Written
 written_in a = a.written.items
 
 -- a book stands for blocks, by a table of extracts, and by each that has these and more
-abbrev pub IsToldBy : ExtractTable → Book → List Written → Type 0
-IsToldBy table book written =
+abbrev pub IsBookOf : ExtractTable → Book → List Written → Type 0
+IsBookOf table book written =
     (later : ExtractTable) → KeepsExtracts table later → Stands book (reverse (placed_written later 1 written))
 
 -- so its book does for those that are written
-abbrev pub IsTold : ExtractTable → Account → Type 0
-IsTold table a = IsToldBy table a.book a.written.items
+abbrev pub IsAccountOf : ExtractTable → Account → Type 0
+IsAccountOf table a = IsBookOf table a.book a.written.items

@@ -1,4 +1,4 @@
--- machine: the blocks whose history is written, and what is told of them.
+-- machine: the blocks whose history is written, and what it has of them.
 use Rattle.std.specs.Prelude.{◌≡◌, ℕ, suc, ◌+◌, ◌<◌, ◌≤◌, Bool, true, false, is_some, List, [], ◌∷◌, length, slice_index_or, Option, Some, unwrap_or}
 use Rattle.cf_headers.specs.Chain.{Hash, Chain}
 use Rattle.cf_headers.specs.Heights.{hash_at}
@@ -7,20 +7,21 @@ use Rattle.cf_scan.specs.declared.extracts.TxExtract.{TxExtract}
 use Rattle.cf_tracker.specs.declared.account.Written.{Written}
 use Rattle.cf_tables.specs.Known.{ExtractTable}
 
--- a block that is told exactly where it has an extract
+-- a block of which the extract stands in the history exactly where there is one
 abbrev pub written_as : ExtractTable → Hash → Written
-written_as table hash = record { hash = record { 0 = hash }; told = is_some (table hash) }
+written_as table hash = record { hash = record { 0 = hash }; has_extract = is_some (table hash) }
 
 -- what a history gets of a block
-abbrev pub extract_told : Bool → Option (List TxExtract) → List TxExtract
-extract_told true o = unwrap_or o []
-extract_told false o = []
+abbrev pub extract_where : Bool → Option (List TxExtract) → List TxExtract
+extract_where true o = unwrap_or o []
+extract_where false o = []
 
--- of blocks, the first of them at this height: the extract of each that is told, and an empty one of each other
+-- of blocks, the first of them at this height: the extract of each that has one in the history, and an empty one of each
+-- other
 abbrev pub placed_written : ExtractTable → ℕ → List Written → List Placed
 placed_written table height [] = []
 placed_written table height (w ∷ ws) =
-    record { height = height; extract = extract_told w.told (table w.hash.0) } ∷ placed_written table (suc height) ws
+    record { height = height; extract = extract_where w.has_extract (table w.hash.0) } ∷ placed_written table (suc height) ws
 
 -- no extract changes
 abbrev pub KeepsExtracts : ExtractTable → ExtractTable → Type 0
@@ -29,15 +30,15 @@ KeepsExtracts before after =
 
 -- the block at a place, counted from 0
 abbrev pub no_block : Written
-no_block = record { hash = record { 0 = [] }; told = false }
+no_block = record { hash = record { 0 = [] }; has_extract = false }
 
 abbrev pub written_at : List Written → ℕ → Written
 written_at written place = slice_index_or written place no_block
 
--- it has this hash, and is told exactly where it has an extract
+-- it has this hash, and its extract exactly where there is one
 pub record IsWrittenAs (table : ExtractTable) (hash : Hash) (block : Written) : Type 0 where
   pub is : block.hash.0 ≡ hash
-  pub told : block.told ≡ is_some (table hash)
+  pub has_extract : block.has_extract ≡ is_some (table hash)
 
 -- one stands there, and is so
 pub record IsWrittenHere (table : ExtractTable) (hash : Hash) (written : List Written) (place : ℕ) : Type 0 where

@@ -1,7 +1,7 @@
 //! The history that is written of a chain's blocks.
 ghost use Rattle.std.specs.Prelude.{◌≡◌, ◌∷◌, ◌++◌, [], ◌+◌, ℕ, List, length, take, true, false, IfOk, OnOk, OnErr};
 ghost use Rattle.cf_scan.specs.{history_of};
-ghost use Rattle.cf_tracker.specs.Account.{IsTold, written_in};
+ghost use Rattle.cf_tracker.specs.Account.{IsAccountOf, written_in};
 ghost use Rattle.cf_tables.specs.{table_in, ExtractTable};
 ghost use Rattle.cf_tracker.specs.Written.{IsWrittenHere, placed_written, written_as};
 ghost use Rattle.cf_tracker.specs.declared.account.Written.{Written};
@@ -11,11 +11,11 @@ use cf_scan::{Book, History};
 use cf_tables::Extracts;
 use std::alloc::Global;
 
-/// A block that is written: its hash, and whether its extract is told.
+/// A block that is written: its hash, and whether its extract stands in the history.
 #[derive(Clone, Copy, Debug)]
 pub struct Written {
     pub hash: Hash32,
-    pub told: bool,
+    pub has_extract: bool,
 }
 
 /// The history of blocks, and which blocks they are, the lowest first. One without an extract stands in it too, and
@@ -31,7 +31,7 @@ impl Account {
     /// No block; it takes no memory.
     pub(crate) fn new(alloc: Global) -> Account
         ensures written { written_in result ≡ [] }
-        ensures told { (table : ExtractTable) → IsTold table result }
+        ensures book { (table : ExtractTable) → IsAccountOf table result }
     {
         Account {
             alloc,
@@ -47,7 +47,7 @@ impl Account {
         self.written.len()
     }
 
-    /// Whether a block is written at a place, counted from 0, and told exactly where its extract is there.
+    /// Whether a block is written at a place, counted from 0, and has its extract exactly where that is there.
     pub(crate) fn is_written(&self, extracts: &Extracts, place: u32, hash: &Hash32) -> bool
         ensures yes { result ≡ true → IsWrittenHere (table_in extracts.now) hash.now.0 (written_in self.now) place }
         ensures no { result ≡ false → IsWrittenHere (table_in extracts.now) hash.now.0 (written_in self.now) place → ⊥ }
@@ -57,13 +57,13 @@ impl Account {
                 if block.hash != *hash {
                     return false;
                 }
-                block.told == extracts.has(hash)
+                block.has_extract == extracts.has(hash)
             }
             None => false,
         }
     }
 
-    /// Writes the next block, and tells it where its extract is there. Where no memory is found nothing has changed.
+    /// Writes the next block, with its extract where that is there. Where no memory is found nothing has changed.
     pub(crate) fn write(
         &mut self,
         extracts: &Extracts,
@@ -74,10 +74,13 @@ impl Account {
         ensures ok { OnOk result
             (written_in self.new ≡ written_in self.old ++ written_as (table_in extracts.now) hash.now.0 ∷ []) }
         ensures err { OnErr result (written_in self.new ≡ written_in self.old) }
-        ensures told { IsTold (table_in extracts.now) self.old → IsTold (table_in extracts.now) self.new }
+        ensures book { IsAccountOf (table_in extracts.now) self.old → IsAccountOf (table_in extracts.now) self.new }
     {
-        let told = extracts.has(hash);
-        self.written.push(Written { hash: *hash, told })?;
+        let has_extract = extracts.has(hash);
+        self.written.push(Written {
+            hash: *hash,
+            has_extract,
+        })?;
         match extracts.tell(self.alloc, &mut self.book, height, hash) {
             Ok(()) => Ok(()),
             Err(NoMemory) => {
@@ -90,7 +93,7 @@ impl Account {
     /// Takes the newest blocks away, until so many are left. It takes no memory.
     pub(crate) fn pop_to(&mut self, count: usize)
         ensures written { written_in self.new ≡ take count (written_in self.old) }
-        ensures told { (table : ExtractTable) → IsTold table self.old → IsTold table self.new }
+        ensures book { (table : ExtractTable) → IsAccountOf table self.old → IsAccountOf table self.new }
     {
         for _ in count..self.written.len() {
             self.pop();
@@ -101,7 +104,7 @@ impl Account {
     fn pop(&mut self)
         ensures written { (older : List Written) (block : Written) → written_in self.old ≡ older ++ block ∷ []
             → written_in self.new ≡ older }
-        ensures told { (table : ExtractTable) → IsTold table self.old → IsTold table self.new }
+        ensures book { (table : ExtractTable) → IsAccountOf table self.old → IsAccountOf table self.new }
     {
         match self.written.pop() {
             Some(_) => {
@@ -113,7 +116,7 @@ impl Account {
 
     /// The history of the blocks that are written.
     pub(crate) fn history(&self) -> Result<History, NoMemory>
-        ensures { IfOk result (λ h. (table : ExtractTable) → IsTold table self.now
+        ensures { IfOk result (λ h. (table : ExtractTable) → IsAccountOf table self.now
             → h ≡ history_of (placed_written table 1 (written_in self.now))) }
     {
         let history = self.book.history()?;

@@ -8,8 +8,8 @@ use cf_bytes::{Hash32, PeerNo};
 use cf_headers::{Change, HeaderStore};
 use cf_seek::passed_below;
 
-/// Up to which height the blocks that are written are those of a peer's chain, each told exactly where it has an
-/// extract; and from where the best chain's blocks are looked at first, as they were found settled up to there.
+/// Up to which height the blocks that are written are those of a peer's chain, each with its extract exactly where
+/// that is there; and from where the best chain's blocks are looked at first, as they were found settled up to there.
 #[derive(Clone, Copy, Debug)]
 pub(crate) struct Bookmark {
     pub peer: PeerNo,

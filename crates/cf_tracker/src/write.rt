@@ -3,7 +3,7 @@ ghost use Rattle.std.specs.Prelude.{◌≡◌, ◌+◌, ◌<◌, ◌≤◌, ℕ,
 ghost use Rattle.cf_dispute.specs.{tables_of};
 ghost use Rattle.cf_headers.specs.Chain.{Chain};
 ghost use Rattle.cf_headers.specs.{common_of, hash_at, own_of};
-ghost use Rattle.cf_tracker.specs.Account.{IsTold, written_in};
+ghost use Rattle.cf_tracker.specs.Account.{IsAccountOf, written_in};
 ghost use Rattle.cf_tables.specs.{table_in, verdicts_in};
 ghost use Rattle.cf_tracker.specs.Writing.{AreDone, IsDoneAbove, IsUpTo};
 ghost use Rattle.cf_tracker.specs.Written.{IsWrittenHere, IsWrittenTo, IsWrittenTop, IsWrittenWhole};
@@ -152,7 +152,7 @@ pub(crate) fn write_blocks<H: HeaderStore>(
     ensures ok { OnOk result
         (IsWrittenWhole (table_in extracts.now) (own_of (H.chain store.now) p) (written_in account.new)) }
     ensures to { IsWrittenTo (table_in extracts.now) (own_of (H.chain store.now) p) (written_in account.new) from }
-    ensures told { IsTold (table_in extracts.now) account.old → IsTold (table_in extracts.now) account.new }
+    ensures book { IsAccountOf (table_in extracts.now) account.old → IsAccountOf (table_in extracts.now) account.new }
     ensures part { IsWrittenTo (table_in extracts.now) (own_of (H.chain store.now) p) (written_in account.new)
         (length (written_in account.new)) }
 {

@@ -1,6 +1,6 @@
 use Rattle.std.proofs.Common.{◌≡◌, false, inl, inr, ◌∙◌, ap, refl, sym}
 use Rattle.std.proofs.lemmas.Bool.{both_ways}
-use Rattle.cf_hear.specs.Seen.{seen_of}
+use Rattle.cf_tracker.specs.Seen.{seen_of}
 use Rattle.cf_hear.proofs.Tracking.{put_forgotten}
 use Rattle.cf_place.specs.Places.{is_here, nobody, place_at}
 use Rattle.cf_client.proofs.Standing.{any_default}

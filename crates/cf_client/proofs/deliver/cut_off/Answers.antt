@@ -3,7 +3,7 @@ use Rattle.cf_peer.specs.declared.act.Act.{Act}
 use Rattle.cf_peer.specs.declared.act.Act.TheVariants.{Close}
 use Rattle.cf_peer.specs.declared.peer.Cause.TheVariants.{SendFailed}
 use Rattle.cf_client.specs.Steps.{desk}
-use Rattle.cf_hear.specs.Seen.{seen_of}
+use Rattle.cf_tracker.specs.Seen.{seen_of}
 use Rattle.cf_hear.proofs.Tracking.{put_forgotten}
 use Rattle.cf_client.proofs.Ordering.{told_none, told_close}
 use Rattle.cf_client.proofs.Steps.{moves_self}

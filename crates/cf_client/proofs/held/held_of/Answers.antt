@@ -1,4 +1,4 @@
-use Rattle.cf_hear.specs.Seen.{seen_of}
+use Rattle.cf_tracker.specs.Seen.{seen_of}
 use Rattle.cf_client.proofs.Holding.{holds_no_more}
 use Rattle.cf_client.proofs.held.held_of.Goals as goal
 

@@ -1,5 +1,5 @@
 use Rattle.cf_lent.specs.View.{msg_of}
-use Rattle.cf_hear.specs.Seen.{seen_of}
+use Rattle.cf_tracker.specs.Seen.{seen_of}
 use Rattle.cf_hear.proofs.Exposing.{plain_exposes}
 use Rattle.cf_hear.proofs.Hearing.{plain_lent, plain_hears}
 use Rattle.cf_hear.proofs.hear.hear.Goals as goal

@@ -13,7 +13,7 @@ use Rattle.cf_peer.specs.Peer.{IsRight, TakesClaims, is_idle_peer}
 use Rattle.cf_peer.proofs.Claiming.{answer_fault, answer_holds}
 use Rattle.cf_tracker.specs.Tracker.{claims_of}
 use Rattle.cf_seek.proofs.Marked.{all_same, claims_out}
-use Rattle.cf_hear.specs.Seen.{seen_of}
+use Rattle.cf_tracker.specs.Seen.{seen_of}
 use Rattle.cf_peer.proofs.Peers.{idle_request}
 use Rattle.cf_hear.proofs.Exposing.{exposes_claims, unexposed_on}
 use Rattle.cf_hear.proofs.Hearing.{claims_hears, may_expose, same_run, same_fault, cause_is}

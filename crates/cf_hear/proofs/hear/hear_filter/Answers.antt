@@ -8,7 +8,7 @@ use Rattle.cf_peer.specs.Peer.{IsRight, TakesFilter}
 use Rattle.cf_tables.specs.Trials.{judged_if}
 use Rattle.cf_tracker.specs.Tracker.{aims_of, claims_of, opens_of, trials_of, verdicts_of, watch_of}
 use Rattle.cf_hear.specs.Judging.{judging_of}
-use Rattle.cf_hear.specs.Seen.{seen_of}
+use Rattle.cf_tracker.specs.Seen.{seen_of}
 use Rattle.cf_hear.proofs.Exposing.{exposes_filter}
 use Rattle.cf_hear.proofs.Hearing.{filter_hears, leaves_chains, may_expose, none_judged, right_same, same_seen}
 use Rattle.cf_hear.proofs.Judging.{judged_kept}

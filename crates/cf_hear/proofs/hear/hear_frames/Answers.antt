@@ -4,7 +4,7 @@ use Rattle.cf_peer.specs.declared.peer.Reaction.{Reaction}
 use Rattle.cf_peer.specs.Trail.{heard_part}
 use Rattle.cf_peer.specs.Peer.{IsReplySendable}
 use Rattle.cf_tracker.specs.Tracker.{watch_of}
-use Rattle.cf_hear.specs.Seen.{seen_of}
+use Rattle.cf_tracker.specs.Seen.{seen_of}
 use Rattle.cf_hear.specs.Exposing.{ExposesNext}
 use Rattle.cf_hear.specs.Hearing.{HearsNext, Midway}
 use Rattle.cf_hear.specs.Judging.{judging_of}

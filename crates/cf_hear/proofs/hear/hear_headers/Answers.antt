@@ -2,7 +2,7 @@ use Rattle.std.proofs.Common.{◌≡◌, true, false, refl, sym, ◌∙◌, arit
 use Rattle.std.proofs.lemmas.Grind.{common_steps}
 use Rattle.cf_peer.specs.Peer.{is_ready_peer}
 use Rattle.cf_peer.proofs.Peers.{ready_is}
-use Rattle.cf_hear.specs.Seen.{seen_of}
+use Rattle.cf_tracker.specs.Seen.{seen_of}
 use Rattle.cf_hear.proofs.Exposing.{unexposed_on}
 use Rattle.cf_hear.proofs.Hearing.{change_own, early_hears, headers_end, headers_hears}
 use Rattle.cf_hear.proofs.hear.hear_headers.Goals as goal

@@ -1,4 +1,4 @@
-use Rattle.cf_hear.specs.Seen.{seen_of}
+use Rattle.cf_tracker.specs.Seen.{seen_of}
 use Rattle.cf_hear.proofs.Hearing.{news_hears, unknown_by}
 use Rattle.cf_hear.proofs.hear.hear_inv.Goals as goal
 

@@ -15,7 +15,7 @@ loop-below-init g c =
       to = written_take table own (written_in c.args.account.now) (written_in c.pop_to.new.self) c.args.from c.pop_to.ensures.written c.requires.to;
       long = take_long (written_in c.args.account.now) (written_in c.pop_to.new.self) c.args.from c.pop_to.ensures.written c.requires.to.long;
       up = omega arith;
-      told = c.pop_to.ensures.told table;
+      book = c.pop_to.ensures.book table;
     }
 
 pub loop-below-preserved : goal.loop-below-preserved
@@ -28,7 +28,7 @@ loop-below-preserved g c =
       to = written_push table own (written_in c.loop-below.account) (written_in c.write.new.self) c.loop-below.below c.hash_at.result.0 c.in_ok-write.ensures.ok before.long lt c.hash_at.ensures before.to;
       long = pushed_long (written_in c.loop-below.account) (written_in c.write.new.self) (written_as table c.hash_at.result.0) c.loop-below.below c.in_ok-write.ensures.ok before.long;
       up = omega (arith, before.up);
-      told = λ is. c.in_ok-write.ensures.told (before.told is);
+      book = λ is. c.in_ok-write.ensures.book (before.book is);
     }
 
 pub returns-in_err-write-clause-to : goal.returns-in_err-write-clause-to
@@ -38,8 +38,8 @@ returns-in_err-write-clause-to g c =
     subst (λ (xs : List Written). IsWrittenTo table own xs c.args.from) (sym c.in_err-write.ensures.err)
     (written_low table own (written_in c.loop-below.account) c.loop-below.below c.args.from c.loop-below.invariant.up c.loop-below.invariant.to)
 
-pub returns-in_err-write-clause-told : goal.returns-in_err-write-clause-told
-returns-in_err-write-clause-told g c = λ is. c.in_err-write.ensures.told (c.loop-below.invariant.told is)
+pub returns-in_err-write-clause-book : goal.returns-in_err-write-clause-book
+returns-in_err-write-clause-book g c = λ is. c.in_err-write.ensures.book (c.loop-below.invariant.book is)
 
 pub returns-clause-ok : goal.returns-clause-ok
 returns-clause-ok g c =

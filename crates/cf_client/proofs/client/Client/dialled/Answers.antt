@@ -2,7 +2,7 @@ use Rattle.std.proofs.Common.{◌≤◌, ◌∷◌, ℕ, List, length, refl, ap,
 use Rattle.std.proofs.Math.Logic.{∥∥₁_map}
 use Rattle.cf_wires.specs.declared.event.Event.TheVariants.{Dialled}
 use Rattle.cf_peer.specs.Acts.{bytes_of}
-use Rattle.cf_hear.specs.Seen.{seen_of}
+use Rattle.cf_tracker.specs.Seen.{seen_of}
 use Rattle.cf_client.proofs.Standing.{called_goes}
 use Rattle.cf_hear.proofs.Exposing.{unexposed_put}
 use Rattle.cf_hear.proofs.Tracking.{none_open, tracks_dialled, tracks_sent, put_entered, none_claimed}

@@ -1,4 +1,4 @@
-use Rattle.cf_hear.specs.Seen.{seen_of}
+use Rattle.cf_tracker.specs.Seen.{seen_of}
 use Rattle.cf_peer.specs.declared.mode.Mode.TheVariants.{Following}
 use Rattle.cf_client.proofs.Begun.{settled_begun}
 use Rattle.cf_client.proofs.client.Client.following.Goals as goal

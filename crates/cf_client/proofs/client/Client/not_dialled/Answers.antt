@@ -1,6 +1,6 @@
 use Rattle.std.proofs.Common.{refl, arith}
 use Rattle.std.proofs.Math.Logic.{∥∥₁_map}
-use Rattle.cf_hear.specs.Seen.{seen_of}
+use Rattle.cf_tracker.specs.Seen.{seen_of}
 use Rattle.cf_place.specs.declared.place.Loss.TheVariants.{NotDialled}
 use Rattle.cf_client.proofs.Standing.{refused_stand}
 use Rattle.cf_hear.proofs.Tracking.{tracks_missed}

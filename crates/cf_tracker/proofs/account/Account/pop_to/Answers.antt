@@ -7,7 +7,7 @@ pub loop-preserved : goal.loop-preserved
 loop-preserved c =
     let lt : c.args.count < length (written_in c.loop.self) = omega (arith, c.loop.invariant.few, c.loop-test.true) in
     let w = popped_one c.args.count (written_in c.args.self.now) (written_in c.loop.self) (written_in c.pop.new.self) c.loop.invariant.kept lt c.pop.ensures.written in
-    record { kept = w.0; few = omega (arith, w.1, c.loop.invariant.few); told = λ table is. c.pop.ensures.told table (c.loop.invariant.told table is) }
+    record { kept = w.0; few = omega (arith, w.1, c.loop.invariant.few); book = λ table is. c.pop.ensures.book table (c.loop.invariant.book table is) }
 
 pub returns-clause-written : goal.returns-clause-written
 returns-clause-written c =

@@ -1,5 +1,5 @@
 use Rattle.std.proofs.Common.{◌≡◌, ◌+◌, length, take}
-use Rattle.cf_tracker.specs.Account.{IsTold, written_in}
+use Rattle.cf_tracker.specs.Account.{IsAccountOf, written_in}
 use Rattle.cf_tables.specs.Known.{ExtractTable}
 use Rattle.cf_tracker.proofs.account.Account.pop_to.Given as goal
 
@@ -7,5 +7,5 @@ abbrev pub invariant-loop : goal.invariant-loop
 invariant-loop l = record {
   kept : take l.count (written_in l.self) ≡ take l.count (written_in l.fn.self);
   few : length (written_in l.self) + l.counter ≡ l.count + l.end;
-  told : (table : ExtractTable) → IsTold table l.fn.self → IsTold table l.self;
+  book : (table : ExtractTable) → IsAccountOf table l.fn.self → IsAccountOf table l.self;
 }

@@ -13,5 +13,5 @@ returns-then-is_written g c =
     let own = best_chain (g.H.HeaderStore.chain now.store) c.args.best in
     let table = table_in now.extracts in
     let whole = c.is_written.ensures c.if-is_written.true in
-    history_opened table now.account c.in_ok-history.history (c.in_ok-history.ensures table) now.told
+    history_opened table now.account c.in_ok-history.history (c.in_ok-history.ensures table) now.book
     ∙ history_along table (reverse own) (written_in now.account) (whole.long ∙ sym (length-reverse own)) (whole_along table own (written_in now.account) whole)

@@ -8,13 +8,13 @@ pub invariant_of-self : goal.invariant_of-self
 invariant_of-self g c =
     let now = c.args.self.now in
     let more = c.ask.ensures.more (c.has_no_block.ensures.yes c.if-not-has_no_block.false) in
-    record { first = now.first; trials = now.trials; told = now.told; stands = now.stands; marks = grind (arith, opened_marked) }
+    record { first = now.first; trials = now.trials; book = now.book; stands = now.stands; marks = grind (arith, opened_marked) }
 
 pub invariant_of-self-2 : goal.invariant_of-self-2
 invariant_of-self-2 g c =
     let now = c.args.self.now in
     let more = c.ask.ensures.more (c.has_no_block.ensures.yes c.if-not-has_no_block.false) in
-    record { first = now.first; trials = now.trials; told = now.told; stands = now.stands; marks = grind (arith, opened_marked) }
+    record { first = now.first; trials = now.trials; book = now.book; stands = now.stands; marks = grind (arith, opened_marked) }
 
 pub returns-then-not-has_no_block-clause-err : goal.returns-then-not-has_no_block-clause-err
 returns-then-not-has_no_block-clause-err g c = none_asked c.args.p.0 c.args.wish.now (opens_in c.args.self.now.opens)

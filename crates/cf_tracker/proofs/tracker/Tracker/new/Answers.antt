@@ -13,8 +13,8 @@ pub invariant_of-result-clause-marks : goal.invariant_of-result-clause-marks
 invariant_of-result-clause-marks g c =
     none_marked (g.H.HeaderStore.chain c.args.store) (table_in c.new-7.result) (tables_of c.in_ok-claims.claims) (verdicts_in c.new-8.result) (opens_in c.in_ok-opens.opens) c.in_ok-cursors.cursors 9 c.requires.none c.in_ok-claims.ensures.none c.in_ok-cursors.ensures
 
-pub invariant_of-result-clause-told : goal.invariant_of-result-clause-told
-invariant_of-result-clause-told g c = ∣ c.new-9.ensures.told (table_in c.new-7.result) ∣₁
+pub invariant_of-result-clause-book : goal.invariant_of-result-clause-book
+invariant_of-result-clause-book g c = ∣ c.new-9.ensures.book (table_in c.new-7.result) ∣₁
 
 pub invariant_of-result-clause-stands : goal.invariant_of-result-clause-stands
 invariant_of-result-clause-stands g c =

@@ -47,7 +47,7 @@ invariant_of-self-2 g c =
           c.in_ok-tried.tried c.common-common.result c.of-2.ensures c.requires.first c.in_ok-tried.ensures.tried c.in_ok-tried.ensures.low
           (within c.common-common.result (own_of chains c.args.p) (own_of chains c.args.other) c.common-common.ensures) c.put-2.ensures
           c.args.self.now.trials;
-      told = c.args.self.now.told;
+      book = c.args.self.now.book;
       stands = c.args.self.now.stands;
       marks = subst (λ (xs : List Marks). ∥ AreMarked chains extracts tables verdicts opens xs ∥₁) (sym c.put.ensures)
           (up_marked chains extracts tables verdicts opens c.args.self.now.cursors c.args.p c.next_sought-want.result.0 c.requires.first c.next_sought-want.ensures.marks c.args.self.now.marks);

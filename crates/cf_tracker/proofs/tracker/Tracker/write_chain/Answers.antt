@@ -24,7 +24,7 @@ invariant_of-self g c =
     record {
       first = now.first;
       trials = now.trials;
-      told = now.told;
+      book = now.book;
       stands = up_to_turned (g.H.HeaderStore.chain now.store) (table_in now.extracts) (written_in now.account) c.args.p mark.peer mark.stands c.turn_to.ensures.peer c.requires c.turn_to.ensures.top.to;
       marks = now.marks;
     }
@@ -39,7 +39,7 @@ invariant_of-self-in-Break-1 g c =
     record {
       first = now.first;
       trials = now.trials;
-      told = ∥∥₁_map now.told c.in_err-write_blocks.ensures.told;
+      book = ∥∥₁_map now.book c.in_err-write_blocks.ensures.book;
       stands = up_to_turned (g.H.HeaderStore.chain now.store) (table_in now.extracts) (written_in c.write_blocks.new.account) c.args.p mark.peer mark.stands c.turn_to.ensures.peer c.requires c.in_err-write_blocks.ensures.to;
       marks = now.marks;
     }
@@ -53,7 +53,7 @@ invariant_of-self-2 g c =
     record {
       first = now.first;
       trials = now.trials;
-      told = ∥∥₁_map now.told c.in_ok-write_blocks.ensures.told;
+      book = ∥∥₁_map now.book c.in_ok-write_blocks.ensures.book;
       stands = up_to_turned (g.H.HeaderStore.chain now.store) (table_in now.extracts) written c.args.p mark.peer c.height-most.result c.turn_to.ensures.peer c.requires
           (subst (IsWrittenTo (table_in now.extracts) own written) (sym c.height-most.ensures.value) c.in_ok-write_blocks.ensures.ok.to);
       marks = now.marks;

@@ -11,7 +11,7 @@ write_chain-requires g c = best_entered (g.H.HeaderStore.chain c.args.self.now.s
 pub returns-in_err-write_chain-in-Some-clause-stands : goal.returns-in_err-write_chain-in-Some-clause-stands
 returns-in_err-write_chain-in-Some-clause-stands g c =
     let new = c.write_chain.new.self in
-    stands_now (table_in new.extracts) new.account new.told
+    stands_now (table_in new.extracts) new.account new.book
 
 pub returns-in_ok-write_chain-in-Some-clause-writes : goal.returns-in_ok-write_chain-in-Some-clause-writes
 returns-in_ok-write_chain-in-Some-clause-writes g c =
@@ -20,7 +20,7 @@ returns-in_ok-write_chain-in-Some-clause-writes g c =
 pub returns-in_ok-write_chain-in-Some-clause-stands : goal.returns-in_ok-write_chain-in-Some-clause-stands
 returns-in_ok-write_chain-in-Some-clause-stands g c =
     let new = c.write_chain.new.self in
-    stands_now (table_in new.extracts) new.account new.told
+    stands_now (table_in new.extracts) new.account new.book
 
 pub returns-in-None-clause-writes : goal.returns-in-None-clause-writes
 returns-in-None-clause-writes g c = record { best = None; is_best = c.in-None.ensures; writes = refl }
@@ -28,7 +28,7 @@ returns-in-None-clause-writes g c = record { best = None; is_best = c.in-None.en
 pub returns-in-None-clause-stands : goal.returns-in-None-clause-stands
 returns-in-None-clause-stands g c =
     let now = c.args.self.now in
-    stands_now (table_in now.extracts) now.account now.told
+    stands_now (table_in now.extracts) now.account now.book
 
 pub returns-in_err-write_chain-in-Some-clause-part : goal.returns-in_err-write_chain-in-Some-clause-part
 returns-in_err-write_chain-in-Some-clause-part g c =
