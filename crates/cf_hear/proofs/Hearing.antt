@@ -71,7 +71,7 @@ use Rattle.cf_hear.proofs.Opening.{else_of, else_self, else_then, opens_claims, 
 -- ---- what was seen
 
 pub same_seen : (s : Seen) → IsSameSeen s s
-same_seen s = record { watch = refl; chains = λ q. refl; claims = λ q block. refl; table = λ hash. refl; verdicts = λ block hash. refl; opens = opens_self s.opens; trials = trials_self s.trials }
+same_seen s = record { watch = refl; chains = λ q. refl; claims = λ q block. refl; table = λ hash. refl; verdicts = λ block hash. refl; opens = opens_self s.opens; trials = trials_self s.trials; written = refl }
 
 -- no filter changes a verdict
 pub none_judged : (aim : Bool) (watch : List (List ℕ)) (v : Verdicts) → AreSameVerdicts v (judged_if aim watch [] v)
@@ -131,7 +131,7 @@ gains_retains a b c p t news jobs x y = record {
   watch = y.watch ∙ x.watch;
   others = λ q ne. y.chains q ∙ x.others q ne;
   claims = λ q ne block. y.claims q block ∙ x.claims q ne block;
-  table = λ hash. y.table hash ∙ x.table hash;
+  table = λ hash. sym (y.table hash) ∙ x.table hash;
   verdicts = λ block hash. y.verdicts block hash ∙ x.verdicts block hash;
   opens = else_then a.opens b.opens c.opens p.0 x.opens (else_of b.opens c.opens p.0 y.opens);
   trials = go_on a.trials b.trials c.trials p.0 news jobs x.trials y.trials;
@@ -251,25 +251,25 @@ cause_is o fault f cause all is this = all ∙ ap (option_map cause_of_claims) i
 
 -- claims that were taken
 pub claims_hears : (before after : Seen) (p : PeerNo) (peer : Peer) (filter : ℕ) (stop previous : Hash32) (hashes : List Hash32) (t : Trail)
-    → TakesClaims peer (after.claims p.0) (Cfheaders filter stop previous hashes) t None → Follows before p.0 t → after.watch ≡ before.watch → ((q : ℕ) → after.chains q ≡ before.chains q)
-    → ((q : ℕ) → q ≢ p.0 → (block : Hash) → after.claims q block ≡ before.claims q block) → IsSameTable after.table before.table → AreSameVerdicts after.verdicts before.verdicts
-    → IsSameOpens before.opens after.opens → IsSameTrials before.trials after.trials → HearsSeen before after p peer (Cfheaders filter stop previous hashes) t NoReply
-claims_hears before after p peer filter stop previous hashes t takes f watch chains others table verdicts opens trials = (
+    → TakesClaims peer (after.claims p.0) (Cfheaders filter stop previous hashes) t None → Follows before p.0 t
+    → ((q : ℕ) → q ≢ p.0 → (block : Hash) → after.claims q block ≡ before.claims q block) → IsSameSeen (record before { claims = after.claims }) after
+    → HearsSeen before after p peer (Cfheaders filter stop previous hashes) t NoReply
+claims_hears before after p peer filter stop previous hashes t takes f others stays = (
   (takes.0, refl),
   record {
-    watch = watch;
+    watch = stays.watch;
     follows = record {
-      chain = chains p.0 ∙ f.chain ∙ ap Some (sym (claims_own filter stop previous hashes t));
+      chain = stays.chains p.0 ∙ f.chain ∙ ap Some (sym (claims_own filter stop previous hashes t));
       claims = takes.1;
-      opens = opens_on before.opens after.opens p.0 (Said (Cfheaders filter stop previous hashes) ∷ t) opens
+      opens = opens_on before.opens after.opens p.0 (Said (Cfheaders filter stop previous hashes) ∷ t) stays.opens
           (opens_claims before.opens p.0 filter stop previous hashes t f.opens);
     };
-    others = λ q ne. chains q;
+    others = λ q ne. stays.chains q;
     claims = others;
-    table = table;
-    verdicts = λ block hash. verdicts block hash ∙ none_judged (before.trials.aims p.0) before.watch before.verdicts block hash;
-    opens = else_of before.opens after.opens p.0 opens;
-    trials = go_none before.trials after.trials p.0 trials;
+    table = λ hash. sym (stays.table hash);
+    verdicts = λ block hash. stays.verdicts block hash ∙ none_judged (before.trials.aims p.0) before.watch before.verdicts block hash;
+    opens = else_of before.opens after.opens p.0 stays.opens;
+    trials = go_none before.trials after.trials p.0 stays.trials;
   },
 )
 
@@ -314,25 +314,24 @@ change_own hs is = ap (λ (o : Option Chain). change_of (link_height hs (unwrap_
 
 pub headers_hears : (before after : Seen) (p : PeerNo) (peer : Peer) (hs : List Header) (t : Trail) → Holds peer (Said (Headers hs) ∷ t) → ready t ≡ true
     → Puts before.chains after.chains p (Some (chain_after (accept hs (own_of before.chains p)) (own_of before.chains p))) → Follows before p.0 t
-    → after.watch ≡ before.watch → IsSameTables before.claims after.claims → IsSameTable before.table after.table → AreSameVerdicts after.verdicts before.verdicts
-    → IsSameOpens before.opens after.opens → IsSameTrials before.trials after.trials → HearsSeen before after p peer (Headers hs) t NoReply
-headers_hears before after p peer hs t h over puts f watch claims table verdicts opens trials =
+    → IsSameSeen (record before { chains = after.chains }) after → HearsSeen before after p peer (Headers hs) t NoReply
+headers_hears before after p peer hs t h over puts f stays =
     let mine : own_of before.chains p ≡ own t = ap (λ (o : Option Chain). unwrap_or o []) f.chain in (
       (h, refl),
       record {
-        watch = watch;
+        watch = stays.watch;
         follows = record {
           chain = puts.here ∙ ap (λ (c : Chain). Some (chain_after (accept hs c) c)) mine ∙ ap Some (sym (same_longer (accept hs (own t)) (own t)))
               ∙ ap Some (sym (ap (λ (b : Bool). if b then longer_of (accept hs (own t)) (own t) else own t) over));
-          claims = λ block. claims p.0 block ∙ f.claims block;
-          opens = opens_on before.opens after.opens p.0 (Said (Headers hs) ∷ t) opens (opens_headers before.opens p.0 hs t f.opens);
+          claims = λ block. stays.claims p.0 block ∙ f.claims block;
+          opens = opens_on before.opens after.opens p.0 (Said (Headers hs) ∷ t) stays.opens (opens_headers before.opens p.0 hs t f.opens);
         };
         others = puts.others;
-        claims = λ q ne block. claims q block;
-        table = λ hash. sym (table hash);
-        verdicts = λ block hash. verdicts block hash ∙ none_judged (before.trials.aims p.0) before.watch before.verdicts block hash;
-        opens = else_of before.opens after.opens p.0 opens;
-        trials = go_none before.trials after.trials p.0 trials;
+        claims = λ q ne block. stays.claims q block;
+        table = λ hash. sym (stays.table hash);
+        verdicts = λ block hash. stays.verdicts block hash ∙ none_judged (before.trials.aims p.0) before.watch before.verdicts block hash;
+        opens = else_of before.opens after.opens p.0 stays.opens;
+        trials = go_none before.trials after.trials p.0 stays.trials;
       },
     )
 
@@ -347,9 +346,8 @@ fault_same TooHigh own cause e = refl
 pub headers_end : (before after : Seen) (p : PeerNo) (old peer : Peer) (hs : List Header) (t : Trail) (cause : Cause) → Holds old t → ready t ≡ true
     → verdict (Said (Headers hs) ∷ t) ≡ Some cause
     → Puts before.chains after.chains p (Some (chain_after (accept hs (own_of before.chains p)) (own_of before.chains p))) → Follows before p.0 t
-    → after.watch ≡ before.watch → IsSameTables before.claims after.claims → IsSameTable before.table after.table → AreSameVerdicts after.verdicts before.verdicts
-    → IsSameOpens before.opens after.opens → IsSameTrials before.trials after.trials → HearsSeen before after p peer (Headers hs) t (Close cause)
-headers_end before after p old peer hs t cause holds over gives puts f watch claims table verdicts opens trials =
+    → IsSameSeen (record before { chains = after.chains }) after → HearsSeen before after p peer (Headers hs) t (Close cause)
+headers_end before after p old peer hs t cause holds over gives puts f stays =
     let mine : own_of before.chains p ≡ own t = ap (λ (o : Option Chain). unwrap_or o []) f.chain in
     let fault : fault_in (accept hs (own t)) ≡ Some cause =
     sym (ap (λ (b : Bool). if b then fault_in (accept hs (own t)) else None) over) ∙ sym (ap (λ (o : Option Cause). first o (fault_of (Headers hs) t)) holds.clean) ∙ gives in
@@ -357,16 +355,17 @@ headers_end before after p old peer hs t cause holds over gives puts f watch cla
     puts.here ∙ ap (λ (c : Chain). Some (chain_after (accept hs c) c)) mine ∙ ap Some (fault_same (accept hs (own t)) (own t) cause fault) ∙ sym f.chain in (
       gives,
       record {
-        watch = watch;
+        watch = stays.watch;
         chains = λ q. elim (cases_eq q p.0) [
           | inl is ↦ subst (λ (k : ℕ). after.chains k ≡ before.chains k) (sym is) here
           | inr ne ↦ puts.others q ne
         ];
-        claims = claims;
-        table = λ hash. sym (table hash);
-        verdicts = verdicts;
-        opens = opens;
-        trials = trials;
+        claims = stays.claims;
+        table = stays.table;
+        verdicts = stays.verdicts;
+        opens = stays.opens;
+        trials = stays.trials;
+        written = stays.written;
       },
     )
 

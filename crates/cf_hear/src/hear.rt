@@ -7,10 +7,10 @@ ghost use Rattle.cf_lent.specs.{msg_of};
 ghost use Rattle.cf_peer.specs.{IsDoable, Part, heard_part, is_unknown, Holds, calm, is_idle_peer, IsReplySendable, IsRight};
 ghost use Rattle.cf_peer.specs.Trail.{Trail};
 ghost use Rattle.cf_match.specs.{AreSameVerdicts, with_verdicts};
-ghost use Rattle.cf_headers.specs.{back_to, Stays, own_of};
+ghost use Rattle.cf_headers.specs.{back_to, own_of};
 ghost use Rattle.cf_seek.specs.{Closes, IsSameElse, IsSameOpens};
-ghost use Rattle.cf_tables.specs.{IsSameTable, IsSameTold, IsSameTrials, judged_if, tested_if, IsSameTables};
-ghost use Rattle.cf_tracker.specs.{aims_of, chains_of, claims_of, opens_of, paid_of, seen_of, table_of, tests_of, trials_of, verdicts_of, watch_of};
+ghost use Rattle.cf_tables.specs.{IsSameTold, judged_if, tested_if};
+ghost use Rattle.cf_tracker.specs.{IsSameSeen, aims_of, chains_of, claims_of, opens_of, paid_of, seen_of, tests_of, trials_of, verdicts_of, watch_of};
 ghost use Rattle.cf_hear.specs.Seen.{Follows};
 ghost use Rattle.cf_dispute.specs.{blocks_of};
 ghost use Rattle.cf_hear.specs.Hearing.{HearsFrom, HearsNext, HeardPiece, KeepsPeer, Leaves, LeavesOthers};
@@ -143,14 +143,9 @@ fn hear_claims<H: HeaderStore>(
 // Has the tracker let go of what was open to a peer, once nothing is.
 fn let_go<H: HeaderStore>(tracker: &mut Tracker<H>, peer: &Peer, p: PeerNo)
     ensures closes { is_idle_peer peer.now ≡ true → Closes (opens_of tracker.old) (opens_of tracker.new) p.0 }
-    ensures stays { is_idle_peer peer.now ≡ false → IsSameOpens (opens_of tracker.old) (opens_of tracker.new) }
+    ensures busy { is_idle_peer peer.now ≡ false → IsSameOpens (opens_of tracker.old) (opens_of tracker.new) }
     ensures others { IsSameElse (opens_of tracker.old) (opens_of tracker.new) p.0 }
-    ensures chains { Stays (chains_of tracker.old) (chains_of tracker.new) }
-    ensures table { IsSameTable (table_of tracker.old) (table_of tracker.new) }
-    ensures claims { IsSameTables (claims_of tracker.old) (claims_of tracker.new) }
-    ensures verdicts { AreSameVerdicts (verdicts_of tracker.new) (verdicts_of tracker.old) }
-    ensures watch { watch_of tracker.new ≡ watch_of tracker.old }
-    ensures trials { IsSameTrials (trials_of tracker.old) (trials_of tracker.new) }
+    ensures stays { IsSameSeen (record (seen_of tracker.old) { opens = opens_of tracker.new }) (seen_of tracker.new) }
 {
     if peer.is_idle() {
         tracker.answered(p);
@@ -161,14 +156,10 @@ fn let_go<H: HeaderStore>(tracker: &mut Tracker<H>, peer: &Peer, p: PeerNo)
 fn test_given<H: HeaderStore>(tracker: &mut Tracker<H>, jobs: &[Job]) -> Result<(), NoMemory>
     ensures told { OnOk result (IsSameTold (tests_of tracker.new)
         (tested_if true (paid_of tracker.old) jobs.now (tests_of tracker.old))) }
-    ensures paid { (hash : List ℕ) → paid_of tracker.new hash ≡ paid_of tracker.old hash }
-    ensures aims { (q : ℕ) → aims_of tracker.new q ≡ aims_of tracker.old q }
-    ensures opens { IsSameOpens (opens_of tracker.old) (opens_of tracker.new) }
-    ensures chains { Stays (chains_of tracker.old) (chains_of tracker.new) }
-    ensures table { IsSameTable (table_of tracker.old) (table_of tracker.new) }
-    ensures claims { IsSameTables (claims_of tracker.old) (claims_of tracker.new) }
-    ensures verdicts { AreSameVerdicts (verdicts_of tracker.new) (verdicts_of tracker.old) }
-    ensures watch { watch_of tracker.new ≡ watch_of tracker.old }
+    ensures stays { IsSameSeen
+        (record (seen_of tracker.old)
+        { trials = record (trials_of tracker.old) { told = tests_of tracker.new } })
+        (seen_of tracker.new) }
 {
     if jobs.len() != 1 {
         return Ok(());
@@ -187,12 +178,10 @@ fn judge_given<H: HeaderStore, M: Matcher>(
         (with_verdicts (watch_of tracker.old) jobs.now (verdicts_of tracker.old))) }
     ensures judged { OnOk result (HasJudged M.judges (watch_of tracker.old)
         (judging_of tracker.old matcher.old) (judging_of tracker.new matcher.new)) }
-    ensures opens { OnOk result (IsSameOpens (opens_of tracker.old) (opens_of tracker.new)) }
-    ensures chains { OnOk result (Stays (chains_of tracker.old) (chains_of tracker.new)) }
-    ensures table { OnOk result (IsSameTable (table_of tracker.old) (table_of tracker.new)) }
-    ensures claims { OnOk result (IsSameTables (claims_of tracker.old) (claims_of tracker.new)) }
-    ensures watch { OnOk result (watch_of tracker.new ≡ watch_of tracker.old) }
-    ensures trials { OnOk result (IsSameTrials (trials_of tracker.old) (trials_of tracker.new)) }
+    ensures stays { IsSameSeen
+        (record (seen_of tracker.old)
+        { verdicts = verdicts_of tracker.new })
+        (seen_of tracker.new) }
 {
     let verdicts = matcher.run(jobs, tracker.watch())?;
     tracker.judge(jobs, verdicts.as_slice())?;
@@ -212,13 +201,10 @@ fn take_given<H: HeaderStore, M: Matcher>(
     ensures judged { OnOk result (MayJudge M.judges tracker.old matcher.old tracker.new matcher.new) }
     ensures told { OnOk result (IsSameTold (tests_of tracker.new)
         (tested_if (aims_of tracker.old p.0) (paid_of tracker.old) jobs.now (tests_of tracker.old))) }
-    ensures paid { OnOk result ((hash : List ℕ) → paid_of tracker.new hash ≡ paid_of tracker.old hash) }
-    ensures aims { OnOk result ((q : ℕ) → aims_of tracker.new q ≡ aims_of tracker.old q) }
-    ensures opens { OnOk result (IsSameOpens (opens_of tracker.old) (opens_of tracker.new)) }
-    ensures chains { OnOk result (Stays (chains_of tracker.old) (chains_of tracker.new)) }
-    ensures table { OnOk result (IsSameTable (table_of tracker.old) (table_of tracker.new)) }
-    ensures claims { OnOk result (IsSameTables (claims_of tracker.old) (claims_of tracker.new)) }
-    ensures watch { OnOk result (watch_of tracker.new ≡ watch_of tracker.old) }
+    ensures stays { IsSameSeen
+        (record (seen_of tracker.old)
+        { verdicts = verdicts_of tracker.new; trials = record (trials_of tracker.old) { told = tests_of tracker.new } })
+        (seen_of tracker.new) }
 {
     if tracker.is_test(p) {
         test_given(tracker, jobs)?;
