@@ -56,7 +56,7 @@ use Rattle.cf_dispute.specs.Claims as dispute
 use Rattle.cf_headers.specs.Rules.{same as same_bytes}
 use Rattle.cf_peer.specs.declared.peer.Request.{Request}
 use Rattle.cf_peer.specs.declared.peer.Request.TheVariants.{Nothing, Handshake, Headers as HeadersAsked, Claims as ClaimsAsked, Filters as FiltersAsked, Block as BlockAsked, Ping as PingAsked}
-use Rattle.cf_seek.specs.Opening.{Closes, IsSameElse, IsSameOpens}
+use Rattle.cf_seek.specs.Opening.{Closes, IsSameElse}
 use Rattle.cf_holds.specs.Known.{OpensAt}
 use Rattle.cf_holds.proofs.KeptOpens.{opens_closed}
 use Rattle.cf_hear.specs.Seen.{Follows}
@@ -65,7 +65,7 @@ use Rattle.cf_hear.specs.Hearing.{Gains, Gives, Retains, HearsSeen, HearsNext, L
 use Rattle.cf_hear.specs.Exposing.{ExposesAmong, IsUnexposed}
 use Rattle.cf_hear.specs.declared.stop.HearStop.{HearStop}
 use Rattle.cf_hear.proofs.Trying.{IsOnce, gives_on, go_none, go_on, go_self, go_then, idle_by, once_by, one_empty, trials_self}
-use Rattle.cf_tables.specs.Trials.{IsSameTrials, TrialsGo, judged_if}
+use Rattle.cf_tables.specs.Trials.{TrialsGo, judged_if}
 use Rattle.cf_hear.proofs.Opening.{else_of, else_self, else_then, opens_claims, opens_headers, opens_news, opens_on, opens_other, opens_plain, opens_self}
 
 -- ---- what was seen

@@ -31,16 +31,15 @@ use Rattle.cf_sync.proofs.Counted.{same_use}
 use Rattle.cf_sync.proofs.Deaf.{heard_deaf, heard_on}
 use Rattle.cf_holds.proofs.TableGrows.{holds_after_piece}
 use Rattle.cf_holds.proofs.VerdictsGrow.{same_given}
-use Rattle.cf_seek.specs.Opening.{Closes, IsSameOpens}
+use Rattle.cf_seek.specs.Opening.{Closes}
 use Rattle.cf_tables.specs.Tables.{IsSameTable}
 use Rattle.cf_tables.specs.Known.{ExtractTable}
-use Rattle.cf_tables.specs.Claiming.{ForgetsClaims, IsSameTables}
+use Rattle.cf_tables.specs.Claiming.{ForgetsClaims}
 use Rattle.cf_hear.specs.Hearing.{HeardWhole, HeardFault, HeardExposed}
 use Rattle.cf_tracker.specs.Seen.{Seen, IsSameSeen}
 use Rattle.cf_hear.specs.Tracks.{HasOpened, Tracks, IsPut, chain_kept}
-use Rattle.cf_tables.specs.Trials.{IsSameTrials}
 use Rattle.cf_hear.proofs.Hearing.{same_seen}
-use Rattle.cf_hear.proofs.Trying.{go_on, go_self, trials_self}
+use Rattle.cf_hear.proofs.Trying.{go_on, go_self}
 use Rattle.cf_hear.proofs.Opening.{closed_on, closes_off, closes_then, else_by, else_self, holds_by, opens_asked, opens_by, opens_kept, opens_self}
 
 -- ---- what is kept of fetched blocks, where two logs tell of the same

@@ -32,12 +32,12 @@ Exposes s p (Send m) = IsUnexposed s
 Exposes s p (Close cause) = IsUnexposed s
 Exposes s p (Expose block filter) = IsExposing s p block.0 filter.0
 
--- the same of a message that p sent: it held a trail, by which it was tracked, and nobody was exposed before
+-- what was seen with the reply to a peer that held any trail, by which it was tracked, where nobody was exposed before
 abbrev pub MayExpose : Seen → Seen → ℕ → Peer → Reaction → Type 0
 MayExpose before after p peer reply =
     (t : Trail) → Holds peer t → Follows before p t → IsUnexposed before → Exposes after p reply
 
--- and with what was read of a piece, if a frame is whole
+-- what was seen with the frame at the front of some bytes, if one is whole
 abbrev pub ExposesNext : Seen → ℕ → Option Reaction → Type 0
 ExposesNext s p None = IsUnexposed s
 ExposesNext s p (Some reply) = Exposes s p reply
