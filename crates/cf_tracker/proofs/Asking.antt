@@ -1,5 +1,5 @@
 -- What is open where memory was lacking.
-use Rattle.std.proofs.Common.{◌≡◌, inl, inr, ℕ, List, [], ◌∷◌, refl, sym, ◌∙◌}
+use Rattle.std.proofs.Common.{inl, inr, ℕ, List, [], ◌∷◌, refl, sym, ◌∙◌}
 use Rattle.std.specs.Prelude.{Result, Ok, Err, OnErr}
 use Rattle.cf_bytes.specs.declared.memory.NoMemory.{NoMemory}
 use Rattle.cf_headers.specs.Chain.{Hash}
@@ -47,16 +47,18 @@ some_asked p (Test trial) before after some = (trial.block.0 ∷ [], some)
 pub some_later : (p : ℕ) (wish : Wish) (first before after : Opens) → IsSameOpens first before → IsAskedInPart p wish before after
     → (asked : List Hash) × OpensSome first after p asked
 some_later p wish first before after same part =
-    let some = some_asked p wish before after part in
-    (some.0, record {
-      stays = λ block is. some.1.stays block (same.filters p block ∙ is);
-      only = λ block is. elim (some.1.only block is) [
-        | inl asked ↦ inl asked
-        | inr was ↦ inr (sym (same.filters p block) ∙ was)
-      ];
-      blocks = λ block. some.1.blocks block ∙ same.blocks p block;
-      others = record {
-        filters = λ q off block. some.1.others.filters q off block ∙ same.filters q block;
-        blocks = λ q off block. some.1.others.blocks q off block ∙ same.blocks q block;
-      };
-    })
+    let some = some_asked p wish before after part in (
+      some.0,
+      record {
+        stays = λ block is. some.1.stays block (same.filters p block ∙ is);
+        only = λ block is. elim (some.1.only block is) [
+          | inl asked ↦ inl asked
+          | inr was ↦ inr (sym (same.filters p block) ∙ was)
+        ];
+        blocks = λ block. some.1.blocks block ∙ same.blocks p block;
+        others = record {
+          filters = λ q off block. some.1.others.filters q off block ∙ same.filters q block;
+          blocks = λ q off block. some.1.others.blocks q off block ∙ same.blocks q block;
+        };
+      },
+    )

@@ -7,7 +7,7 @@ use Rattle.cf_scan.specs.declared.extracts.TxExtract.{TxExtract}
 use Rattle.cf_tracker.specs.declared.account.Written.{Written}
 use Rattle.cf_tables.specs.Known.{ExtractTable}
 
--- a block of which the extract stands in the history exactly where there is one
+-- how a block is written: with its extract exactly where there is one
 abbrev pub written_as : ExtractTable → Hash → Written
 written_as table hash = record { hash = record { 0 = hash }; has_extract = is_some (table hash) }
 

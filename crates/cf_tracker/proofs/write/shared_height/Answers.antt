@@ -1,5 +1,4 @@
-use Rattle.std.proofs.Common.{◌≡◌, ℕ, ap, arith}
-use Rattle.cf_headers.specs.Chain.{Chain}
+use Rattle.std.proofs.Common.{◌≡◌, ap, arith}
 use Rattle.cf_headers.specs.Heights.{common_of}
 use Rattle.cf_headers.specs.Store.{own_of}
 use Rattle.cf_tracker.proofs.Writings.{entered_if, own_there}

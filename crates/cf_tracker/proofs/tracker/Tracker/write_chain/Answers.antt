@@ -1,4 +1,4 @@
-use Rattle.std.proofs.Common.{◌≤◌, length, subst, sym, arith}
+use Rattle.std.proofs.Common.{subst, sym, arith}
 use Rattle.std.proofs.Math.Logic.{∥∥₁_map}
 use Rattle.cf_dispute.specs.Of.{tables_of}
 use Rattle.cf_headers.specs.Store.{own_of}
