@@ -14,6 +14,7 @@ use Rattle.cf_frame.specs.Reading.{front_of}
 use Rattle.cf_frame.specs.Stream.{read_stream}
 use Rattle.cf_frame.proofs.Lending.{all_taken}
 use Rattle.cf_headers.specs.Chain.{Hash, Chain, Accepted, Longer, NoLonger, Unlinked, Invalid, TooHigh, accept, back_to}
+use Rattle.cf_headers.specs.declared.change.Change.{Change}
 use Rattle.cf_headers.specs.Changes.{chain_after, change_of, link_height}
 use Rattle.cf_headers.specs.Heights.{height_of}
 use Rattle.cf_headers.specs.Store.{Puts, own_of}
@@ -66,7 +67,7 @@ use Rattle.cf_hear.specs.Exposing.{ExposesAmong, IsUnexposed}
 use Rattle.cf_hear.specs.declared.stop.HearStop.{HearStop}
 use Rattle.cf_hear.proofs.Trying.{IsOnce, gives_on, go_none, go_on, go_self, go_then, idle_by, once_by, one_empty, trials_self}
 use Rattle.cf_tables.specs.Trials.{TrialsGo, judged_if}
-use Rattle.cf_hear.proofs.Opening.{else_of, else_self, else_then, opens_claims, opens_headers, opens_news, opens_on, opens_other, opens_plain, opens_self}
+use Rattle.cf_hear.proofs.Opening.{closes_then, else_of, else_self, else_then, opens_claims, opens_headers, opens_news, opens_on, opens_other, opens_plain, opens_self}
 
 -- ---- what was seen
 
@@ -189,27 +190,30 @@ other_hears seen p peer b hash t h off is f =
     )
 
 -- the block that is open to it, once its extract is kept
-pub taken_hears : (before after : Seen) (p : PeerNo) (peer : Peer) (b : Block) (t : Trail) → Holds peer (Said (BlockMessage b) ∷ t) → fetched_by (BlockMessage b) (request t) ≡ b ∷ []
-    → Follows before p.0 t → after.watch ≡ before.watch → ((q : ℕ) → after.chains q ≡ before.chains q) → IsSameTables before.claims after.claims → IsSameTable after.table (with_block before.watch b before.table)
-    → AreSameVerdicts after.verdicts before.verdicts → Closes before.opens after.opens p.0 → TrialsGo before.trials after.trials p.0 (b ∷ []) []
+pub taken_hears : (before kept after : Seen) (p : PeerNo) (peer : Peer) (b : Block) (t : Trail) → Holds peer (Said (BlockMessage b) ∷ t) → fetched_by (BlockMessage b) (request t) ≡ b ∷ []
+    → Follows before p.0 t → IsSameTable kept.table (with_block before.watch b before.table)
+    → IsSameSeen (record before { table = kept.table; trials = record before.trials { paid = kept.trials.paid } }) kept
+    → Closes kept.opens after.opens p.0 → IsSameSeen (record kept { opens = after.opens }) after
+    → TrialsGo before.trials after.trials p.0 (b ∷ []) []
     → request (Said (BlockMessage b) ∷ t) ≡ NothingOpen → HearsSeen before after p peer (BlockMessage b) t NoReply
-taken_hears before after p peer b t h brought f watch chains claims table verdicts closes trials ends = (
-  (h, refl),
-  subst (λ (bs : List Block). Gains before after p (Said (BlockMessage b) ∷ t) bs []) (sym brought) (record {
-    watch = watch;
-    follows = record {
-      chain = chains p.0 ∙ f.chain ∙ ap Some (sym (block_own b t));
-      claims = λ block. claims p.0 block ∙ f.claims block;
-      opens = opens_closed before.opens after.opens p.0 (Said (BlockMessage b) ∷ t) closes (λ on. ends);
-    };
-    others = λ q ne. chains q;
-    claims = λ q ne block. claims q block;
-    table = table;
-    verdicts = λ block hash. verdicts block hash ∙ none_judged (before.trials.aims p.0) before.watch before.verdicts block hash;
-    opens = closes.others;
-    trials = trials;
-  }),
-)
+taken_hears before kept after p peer b t h brought f table keeps closes stays trials ends =
+    let closed = closes_then before.opens kept.opens after.opens p.0 (else_of before.opens kept.opens p.0 keeps.opens) closes in (
+      (h, refl),
+      subst (λ (bs : List Block). Gains before after p (Said (BlockMessage b) ∷ t) bs []) (sym brought) (record {
+        watch = stays.watch ∙ keeps.watch;
+        follows = record {
+          chain = stays.chains p.0 ∙ keeps.chains p.0 ∙ f.chain ∙ ap Some (sym (block_own b t));
+          claims = λ block. stays.claims p.0 block ∙ keeps.claims p.0 block ∙ f.claims block;
+          opens = opens_closed before.opens after.opens p.0 (Said (BlockMessage b) ∷ t) closed (λ on. ends);
+        };
+        others = λ q ne. stays.chains q ∙ keeps.chains q;
+        claims = λ q ne block. stays.claims q block ∙ keeps.claims q block;
+        table = λ hash. sym (stays.table hash) ∙ table hash;
+        verdicts = λ block hash. stays.verdicts block hash ∙ keeps.verdicts block hash ∙ none_judged (before.trials.aims p.0) before.watch before.verdicts block hash;
+        opens = closed.others;
+        trials = trials;
+      }),
+    )
 
 -- claims change no chain, nor does a filter
 claims_own : (filter : ℕ) (stop previous : Hash32) (hashes : List Hash32) (t : Trail) → own (Said (Cfheaders filter stop previous hashes) ∷ t) ≡ own t
@@ -306,12 +310,14 @@ early_hears seen p peer hs t h early f = (
       (follows_on seen p.0 (Headers hs) t (early_own peer hs t h early) (λ block. refl) (opens_headers seen.opens p.0 hs t f.opens) f),
 )
 
--- headers that were taken
 -- what headers do to the chain that is kept they do to the own chain
-pub change_own : {o : Option Chain} {own : Chain} (hs : List Header) → o ≡ Some own
-    → change_of (link_height hs (unwrap_or o [])) (accept hs (unwrap_or o [])) ≡ change_of (link_height hs own) (accept hs own)
-change_own hs is = ap (λ (o : Option Chain). change_of (link_height hs (unwrap_or o [])) (accept hs (unwrap_or o []))) is
+pub change_own : {o : Option Chain} {own : Chain} (hs : List Header) (change : Change)
+    → change ≡ change_of (link_height hs (unwrap_or o [])) (accept hs (unwrap_or o [])) → o ≡ Some own
+    → change ≡ change_of (link_height hs own) (accept hs own)
+change_own hs change answer is =
+    answer ∙ ap (λ (o : Option Chain). change_of (link_height hs (unwrap_or o [])) (accept hs (unwrap_or o []))) is
 
+-- headers that were taken
 pub headers_hears : (before after : Seen) (p : PeerNo) (peer : Peer) (hs : List Header) (t : Trail) → Holds peer (Said (Headers hs) ∷ t) → ready t ≡ true
     → Puts before.chains after.chains p (Some (chain_after (accept hs (own_of before.chains p)) (own_of before.chains p))) → Follows before p.0 t
     → IsSameSeen (record before { chains = after.chains }) after → HearsSeen before after p peer (Headers hs) t NoReply

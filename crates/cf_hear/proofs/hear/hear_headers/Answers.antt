@@ -16,7 +16,7 @@ pub returns-in-None-clause-heard : goal.returns-in-None-clause-heard
 returns-in-None-clause-heard g c = λ t h f.
     let on : is_ready_peer c.args.peer.now ≡ true = grind (arith, common_steps) in
     let kept = c.in_ok-change.ensures in
-    let takes = c.in-None.ensures.heard t c.args.headers.now h refl (kept.answer ∙ change_own c.args.headers.now f.chain) in
+    let takes = c.in-None.ensures.heard t c.args.headers.now h refl (change_own c.args.headers.now c.in_ok-change.change kept.answer f.chain) in
     headers_hears (seen_of c.args.tracker.now) (seen_of c.accept.new.self) c.args.p c.take_headers.new.self c.args.headers.now t takes
     (sym (ready_is c.args.peer.now t h) ∙ on) kept.after f kept.stays
 
@@ -26,7 +26,7 @@ returns-in-Some-clause-heard g c = λ t h f.
     let kept = c.in_ok-change.ensures in
     headers_end (seen_of c.args.tracker.now) (seen_of c.accept.new.self) c.args.p c.args.peer.now c.take_headers.new.self
     c.args.headers.now t c.in-Some.cause h (sym (ready_is c.args.peer.now t h) ∙ on)
-    (c.in-Some.ensures.heard t c.args.headers.now h refl (kept.answer ∙ change_own c.args.headers.now f.chain)) kept.after f kept.stays
+    (c.in-Some.ensures.heard t c.args.headers.now h refl (change_own c.args.headers.now c.in_ok-change.change kept.answer f.chain)) kept.after f kept.stays
 
 pub returns-then-not-is_ready-clause-exposes : goal.returns-then-not-is_ready-clause-exposes
 returns-then-not-is_ready-clause-exposes g c = λ t h f none. none
