@@ -32,7 +32,7 @@ Exposes s p (Send m) = IsUnexposed s
 Exposes s p (Close cause) = IsUnexposed s
 Exposes s p (Expose block filter) = IsExposing s p block.0 filter.0
 
--- what was seen with the reply to a peer that held any trail, by which it was tracked, where nobody was exposed before
+-- what was seen with the reply to a peer that held any trail by which it was tracked, where nobody was exposed before
 abbrev pub MayExpose : Seen → Seen → ℕ → Peer → Reaction → Type 0
 MayExpose before after p peer reply =
     (t : Trail) → Holds peer t → Follows before p t → IsUnexposed before → Exposes after p reply

@@ -50,7 +50,7 @@ HearsSeen before after p peer m t (Expose block filter) =
     Hears peer m t NoReply × Gains before after p (Said m ∷ t) (fetched_by m (request t)) (given_by m (request t))
     × ((request (Said m ∷ t) ≡ NothingOpen) × IsExposedIn after p.0 block.0 filter.0)
 
--- what it does where the peer held any trail, by which it was tracked
+-- what one message of a peer does that held any trail by which it was tracked
 abbrev pub HearsFrom : Seen → Seen → PeerNo → Peer → Peer → Msg → Reaction → Type 0
 HearsFrom before after p old new m reply =
     (t : Trail) → Holds old t → Follows before p.0 t → HearsSeen before after p new m t reply

@@ -157,8 +157,7 @@ fn test_given<H: HeaderStore>(tracker: &mut Tracker<H>, jobs: &[Job]) -> Result<
     ensures told { OnOk result (IsSameTold (tests_of tracker.new)
         (tested_if true (paid_of tracker.old) jobs.now (tests_of tracker.old))) }
     ensures stays { IsSameSeen
-        (record (seen_of tracker.old)
-        { trials = record (trials_of tracker.old) { told = tests_of tracker.new } })
+        (record (seen_of tracker.old) { trials = record (trials_of tracker.old) { told = tests_of tracker.new } })
         (seen_of tracker.new) }
 {
     if jobs.len() != 1 {
@@ -179,9 +178,7 @@ fn judge_given<H: HeaderStore, M: Matcher>(
     ensures judged { OnOk result (HasJudged M.judges (watch_of tracker.old)
         (judging_of tracker.old matcher.old) (judging_of tracker.new matcher.new)) }
     ensures stays { IsSameSeen
-        (record (seen_of tracker.old)
-        { verdicts = verdicts_of tracker.new })
-        (seen_of tracker.new) }
+        (record (seen_of tracker.old) { verdicts = verdicts_of tracker.new }) (seen_of tracker.new) }
 {
     let verdicts = matcher.run(jobs, tracker.watch())?;
     tracker.judge(jobs, verdicts.as_slice())?;
