@@ -4,12 +4,10 @@ use Rattle.std.proofs.Math.Path.{fun_ext}
 use Rattle.std.specs.Prelude.{unwrap_or}
 use Rattle.cf_bytes.specs.declared.hash.Hash32.{Hash32}
 use Rattle.cf_bytes.specs.declared.peer.PeerNo.{PeerNo}
-use Rattle.cf_dispute.specs.Claims.{Tables, no_claims}
+use Rattle.cf_dispute.specs.Claims.{no_claims}
 use Rattle.cf_dispute.specs.Tables.{blocks_of}
 use Rattle.cf_block.specs.Header.{block_hash_of}
 use Rattle.cf_headers.specs.Chain.{Hash, Chain, back_to, tip_hash}
-use Rattle.cf_headers.specs.Store.{Chains, Stays}
-use Rattle.cf_match.specs.Verdicts.{Verdicts, AreSameVerdicts}
 use Rattle.cf_msg.specs.declared.msg.Inventory.{Inventory}
 use Rattle.cf_msg.specs.declared.msg.Msg.{Msg}
 use Rattle.cf_msg.specs.declared.msg.Msg.TheVariants.{Version, GetHeaders, GetData, GetCfheaders, GetCfilters}
@@ -38,20 +36,18 @@ use Rattle.cf_seek.specs.Aims.{IsAimed}
 use Rattle.cf_tables.specs.Outputs.{Paid}
 use Rattle.std.proofs.lemmas.Bool.{cases_eq}
 use Rattle.cf_tables.specs.Tests.{IsSameTold}
-use Rattle.cf_tables.specs.Known.{TestResults, ExtractTable}
+use Rattle.cf_tables.specs.Known.{TestResults}
 use Rattle.cf_seek.specs.Testing.{IsTrying}
 use Rattle.cf_tables.specs.Trials.{IsSameTrials, Trials}
 use Rattle.cf_headers.proofs.Found.{back_ends}
 use Rattle.cf_holds.proofs.KeptAims.{IsNoQuestion, aims_asked, aims_for_test, aims_for_wanted, aims_other}
 use Rattle.cf_seek.specs.Opens.{Opens}
-use Rattle.cf_seek.specs.Opening.{IsSameElse, IsSameOpens, OpensBlock, OpensFilters}
+use Rattle.cf_seek.specs.Opening.{IsSameOpens, OpensBlock, OpensFilters}
 use Rattle.cf_seek.specs.Seeking.{MoreOpens}
 use Rattle.cf_seek.specs.Spans.{IsWish}
-use Rattle.cf_tables.specs.Tables.{IsSameTable}
-use Rattle.cf_tables.specs.Claiming.{IsSameTables}
 use Rattle.cf_tracker.specs.Seen.{Seen, IsSameSeen}
-use Rattle.cf_hear.specs.Tracks.{HasOpened, IsSameElsewhere, Tracks, IsPut}
-use Rattle.cf_hear.proofs.Opening.{else_of, opens_asked, opens_on}
+use Rattle.cf_hear.specs.Tracks.{HasOpened, Tracks, IsPut}
+use Rattle.cf_hear.proofs.Opening.{opens_asked, opens_on}
 use Rattle.cf_hear.proofs.Tracking.{opened_self, tracks_asked, tracks_closed}
 use Rattle.cf_hear.proofs.Wishes.{claims_send, filters_needed, filters_send, block_send, test_needed, test_part, test_send}
 use Rattle.cf_place.specs.declared.place.Place.{Place}
@@ -63,11 +59,6 @@ use Rattle.cf_client.proofs.Standing.{after-append, wants_goes, send_goes, keeps
 use Rattle.cf_client.proofs.Spelled.{spelled_bytes}
 
 -- ---- what the calls of a tracker say, of what was seen
-
-pub opened_is : (before after : Seen) (i : ℕ) → Stays before.chains after.chains → IsSameTables before.claims after.claims → IsSameTable before.table after.table → AreSameVerdicts after.verdicts before.verdicts
-    → after.watch ≡ before.watch → IsSameElse before.opens after.opens i → MoreOpens before.opens after.opens → IsSameElsewhere before.trials after.trials i → HasOpened before after i
-opened_is before after i stays claims table verdicts watch others more trials =
-    record { watch = watch; chains = stays; claims = claims; table = λ hash. sym (table hash); verdicts = verdicts; opens = others; more = more; trials = trials }
 
 -- nothing that is kept of tests changed
 pub aims_stay : (before after : Trials) (i : ℕ) → ((hash : Hash) → after.paid hash ≡ before.paid hash) → IsSameTold after.told before.told → after.aims i ≡ before.aims i
@@ -87,22 +78,6 @@ more_same before after same = record {
   filters = λ q block off. sym (same.filters q block) ∙ off;
   blocks = λ q block off. sym (same.blocks q block) ∙ off;
 }
-
-pub same_is : (before after : Seen) → Stays before.chains after.chains → IsSameTables before.claims after.claims → IsSameTable before.table after.table → AreSameVerdicts after.verdicts before.verdicts
-    → after.watch ≡ before.watch → IsSameOpens before.opens after.opens → IsSameTrials before.trials after.trials → IsSameSeen before after
-same_is before after stays claims table verdicts watch opens trials =
-    record { watch = watch; chains = stays; claims = claims; table = λ hash. sym (table hash); verdicts = verdicts; opens = opens; trials = trials }
-
--- what was seen is what it was, but for what is open and what is kept of tests
-pub seen_but : (before after : Seen) (i : ℕ) → HasOpened before after i → after ≡ record before { opens = after.opens; trials = after.trials }
-seen_but before after i same =
-    ap (λ w. seen w after.chains after.claims after.table after.verdicts) same.watch
-    ∙ ap (λ c. seen before.watch c after.claims after.table after.verdicts) (fun_ext same.chains)
-    ∙ ap (λ c. seen before.watch before.chains c after.table after.verdicts) (fun_ext (λ p. fun_ext (same.claims p)))
-    ∙ ap (λ t. seen before.watch before.chains before.claims t after.verdicts) (fun_ext same.table)
-    ∙ ap (λ v. seen before.watch before.chains before.claims before.table v) (fun_ext (λ block. fun_ext (same.verdicts block))) where
-      seen : List (List ℕ) → Chains → Tables → ExtractTable → Verdicts → Seen
-      seen watch chains claims table verdicts = record { watch = watch; chains = chains; claims = claims; table = table; verdicts = verdicts; opens = after.opens; trials = after.trials }
 
 abbrev opens_with : (ℕ → Hash → Bool) → (ℕ → Hash → Bool) → Opens
 opens_with filters blocks = record { filters = filters; blocks = blocks }
@@ -124,18 +99,14 @@ trials_is a b same =
 -- what was seen is what it was
 pub seen_same : (before after : Seen) → IsSameSeen before after → after ≡ before
 seen_same before after same =
-    seen_but before after 0 (record {
-      watch = same.watch;
-      chains = same.chains;
-      claims = same.claims;
-      table = same.table;
-      verdicts = same.verdicts;
-      opens = else_of before.opens after.opens 0 same.opens;
-      more = more_same before.opens after.opens same.opens;
-      trials = record { paid = same.trials.paid; told = same.trials.told; aims = λ q ne. same.trials.aims q };
-    })
-    ∙ ap (λ (o : Opens). record before { opens = o; trials = after.trials }) (opens_is before.opens after.opens same.opens)
-    ∙ ap (λ (t : Trials). record before { trials = t }) (trials_is before.trials after.trials same.trials)
+    ap (λ x. record after { watch = x }) same.watch
+    ∙ ap (λ x. record after { watch = before.watch; chains = x }) (fun_ext same.chains)
+    ∙ ap (λ x. record after { watch = before.watch; chains = before.chains; claims = x }) (fun_ext (λ p. fun_ext (same.claims p)))
+    ∙ ap (λ x. record before { table = x; verdicts = after.verdicts; opens = after.opens; trials = after.trials; written = after.written }) (fun_ext (λ hash. sym (same.table hash)))
+    ∙ ap (λ x. record before { verdicts = x; opens = after.opens; trials = after.trials; written = after.written }) (fun_ext (λ block. fun_ext (same.verdicts block)))
+    ∙ ap (λ x. record before { opens = x; trials = after.trials; written = after.written }) (opens_is before.opens after.opens same.opens)
+    ∙ ap (λ x. record before { trials = x; written = after.written }) (trials_is before.trials after.trials same.trials)
+    ∙ ap (λ x. record before { written = x }) same.written
 
 -- ---- the chain that is kept of a peer
 

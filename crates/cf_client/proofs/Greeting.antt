@@ -85,15 +85,15 @@ reflects_cut c p log cut is reflects = λ q. elim (cases_eq q p.0) [
 ]
 
 -- who was greeted is sent no version again
-asked_tells : (mode : Mode) (words : Greeting) (t : Trail) (m : Msg) → IsGreetedOn t → MayAskIn mode t m → TellsGreeting words m
-asked_tells mode words t (Version version services time to from nonce agent height relay) is may = absurd (both_ways (is_greeted t) may.1 (is may.0))
-asked_tells mode words t m is may = tt
+asked_tells : (mode : Mode) (greeting : Greeting) (t : Trail) (m : Msg) → IsGreetedOn t → MayAskIn mode t m → TellsGreeting greeting m
+asked_tells mode greeting t (Version version services time to from nonce agent height relay) is may = absurd (both_ways (is_greeted t) may.1 (is may.0))
+asked_tells mode greeting t m is may = tt
 
 -- where each connected peer was greeted, no act that is allowed sends a version
-pub acts_tell : (rule : Rule) (words : Greeting) (acts : List Act) (log : Log) → AreGreeted log → Allowed rule acts log → All (ActTells words) acts
-acts_tell rule words [] log all allowed = All-nil (ActTells words)
-acts_tell rule words (Send p m ∷ acts) log all allowed =
-    All-cons (ActTells words) (Send p m) acts (asked_tells rule.mode words (trail log p.0) m (all p.0) allowed.0.2.of_its_part)
-    (acts_tell rule words acts (Sent p (bytes_of m) ∷ log) (sent_greeted log p (bytes_of m) all) allowed.1)
-acts_tell rule words (Close p cause ∷ acts) log all allowed =
-    All-cons (ActTells words) (Close p cause) acts tt (acts_tell rule words acts (Closed p ∷ log) (closed_greeted log p all) allowed.1)
+pub acts_tell : (rule : Rule) (greeting : Greeting) (acts : List Act) (log : Log) → AreGreeted log → Allowed rule acts log → All (ActTells greeting) acts
+acts_tell rule greeting [] log all allowed = All-nil (ActTells greeting)
+acts_tell rule greeting (Send p m ∷ acts) log all allowed =
+    All-cons (ActTells greeting) (Send p m) acts (asked_tells rule.mode greeting (trail log p.0) m (all p.0) allowed.0.2.of_its_part)
+    (acts_tell rule greeting acts (Sent p (bytes_of m) ∷ log) (sent_greeted log p (bytes_of m) all) allowed.1)
+acts_tell rule greeting (Close p cause ∷ acts) log all allowed =
+    All-cons (ActTells greeting) (Close p cause) acts tt (acts_tell rule greeting acts (Closed p ∷ log) (closed_greeted log p all) allowed.1)

@@ -9,7 +9,7 @@ use Rattle.cf_bytes.specs.declared.peer.PeerNo.{PeerNo}
 use Rattle.cf_headers.specs.Chain.{Hash, IsIn}
 use Rattle.cf_peer.specs.declared.act.Act.{Act}
 use Rattle.cf_peer.specs.declared.peer.Cause.TheVariants.{Omits}
-use Rattle.cf_peer.specs.Asking.{claims, counted, fetched_blocks, hash_claimed}
+use Rattle.cf_peer.specs.Asking.{claims, counted, hash_claimed}
 use Rattle.cf_peer.specs.Trail.{Part, Trail, Lost as LostItem, is_connected, part_of, with_item}
 use Rattle.cf_wires.specs.declared.event.Event.TheVariants.{Closed}
 use Rattle.cf_wires.specs.declared.event.Mark.TheVariants as mark
@@ -188,13 +188,13 @@ shuts_next i block filter before d now lt so_far (inr (one, put, places, acts)) 
         λ at. put.opens.others.blocks q other at ∙ was.4 at,
       );
   count = ap (λ (ps : List Place). length ps) places ∙ length-set d.places i shut_place ∙ so_far.count;
-  watch = put.watch ∙ so_far.watch;
-  table = λ hash. put.table hash ∙ so_far.table hash;
-  verdicts = λ at hash. put.verdicts at hash ∙ so_far.verdicts at hash;
+  watch = put.stays.watch ∙ so_far.watch;
+  table = λ hash. sym (put.stays.table hash) ∙ so_far.table hash;
+  verdicts = λ at hash. put.stays.verdicts at hash ∙ so_far.verdicts at hash;
   trials = record {
-    paid = λ hash. put.trials.paid hash ∙ so_far.trials.paid hash;
-    told = λ at of. put.trials.told at of ∙ so_far.trials.told at of;
-    aims = λ q. put.trials.aims q ∙ so_far.trials.aims q;
+    paid = λ hash. put.stays.trials.paid hash ∙ so_far.trials.paid hash;
+    told = λ at of. put.stays.trials.told at of ∙ so_far.trials.told at of;
+    aims = λ q. put.stays.trials.aims q ∙ so_far.trials.aims q;
   };
 }
 

@@ -31,6 +31,7 @@ use Rattle.cf_seek.specs.Aims.{IsAimed}
 use Rattle.cf_seek.specs.Opens.{Opens}
 use Rattle.cf_seek.specs.Opening.{IsSameElse}
 use Rattle.cf_seek.specs.Spans.{IsAskedFor, IsWish, GoesFar}
+use Rattle.cf_tracker.specs.declared.account.Written.{Written}
 use Rattle.cf_tracker.specs.Seen.{Seen, IsSameSeen}
 use Rattle.cf_hear.specs.Tracks.{HasOpened, Tracks, IsPut}
 use Rattle.cf_hear.specs.Exposing.{IsUnexposed}
@@ -51,7 +52,7 @@ use Rattle.cf_client.proofs.Naming.{blameless_seen}
 use Rattle.cf_client.proofs.Settled.{asked_busy, set_each, set_other, settled_off, heard_by, through_best, through_wish}
 use Rattle.cf_client.proofs.Rights.{right_of, right_set, claims_right, filters_right}
 use Rattle.cf_client.proofs.Best.{Furthest, Tries, rule_in}
-use Rattle.cf_client.proofs.Acting.{aims_stay, range_in, closed_tracks, headers_goes, claims_goes, filters_goes, block_goes, headers_tracks, claims_tracks, filters_tracks, block_tracks, test_goes, test_tracks, same_is, seen_same}
+use Rattle.cf_client.proofs.Acting.{aims_stay, range_in, closed_tracks, headers_goes, claims_goes, filters_goes, block_goes, headers_tracks, claims_tracks, filters_tracks, block_tracks, test_goes, test_tracks, seen_same}
 
 -- ---- steps, put together
 
@@ -126,6 +127,26 @@ acted d i s seen a = record { places = set d.places i s; seen = seen; acts = d.a
 pub stay_moves : {mode : Mode} {way : Way} {d : Desk} → IsInOrder d → ((log next : Log) → way log next → Stands mode d log → Stands mode d next) → Moves mode way d d
 stay_moves {d = d} order stands = record { stands = stands; order = order; watch = refl; more = extends_self d.acts; doable = λ all. all; calm = λ calm. calm }
 
+-- what is written doesn't count
+tracks_written : (s : Seen) (written : List Written) (log : Log) → Tracks s log → Tracks (record s { written = written }) log
+tracks_written s written log t =
+    record { kept = t.kept; claimed = t.claimed; fetched = t.fetched; given = t.given; opened = t.opened; trials = t.trials }
+
+pub moves_written : {mode : Mode} {way : Way} {before d : Desk} (after : Seen) → Moves mode way before d
+    → IsSameSeen (record d.seen { written = after.written }) after → Moves mode way before (record d { seen = after })
+moves_written {mode} {way} {before} {d} after m same =
+    subst (λ (s : Seen). Moves mode way before (record d { seen = s }))
+    (sym (seen_same (record d.seen { written = after.written }) after same)) (record {
+      stands = λ log next is stood.
+          let s = m.stands log next is stood in
+          record { goes = s.goes; tracks = tracks_written d.seen after.written (done d.acts next) s.tracks; unexposed = s.unexposed };
+      order = record { few = m.order.few; entered = m.order.entered; right = m.order.right };
+      watch = m.watch;
+      more = m.more;
+      doable = m.doable;
+      calm = m.calm;
+    })
+
 -- what was seen changes of one peer alone, and agrees with what is kept of it
 pub record IsChanged (before after : Seen) (i : ℕ) (s : Place) : Type 0 where
   pub watch : after.watch ≡ before.watch
@@ -136,7 +157,7 @@ pub record IsChanged (before after : Seen) (i : ℕ) (s : Place) : Type 0 where
 
 -- a peer is lost
 pub is_lost : (before after : Seen) (i : ℕ) (loss : Loss) → IsPut before after i None no_claims → IsChanged before after i (Lost loss)
-is_lost before after i loss put = record { watch = put.watch; others = put.others; here = sym (ap is_some put.here); claims = put.claims_others; right = tt }
+is_lost before after i loss put = record { watch = put.stays.watch; others = put.others; here = sym (ap is_some put.here); claims = put.claims_others; right = tt }
 
 -- one place is set
 pub set_moves : {mode : Mode} {way : Way} {d : Desk} {after : Seen} {acts : List Act} (i : ℕ) (s : Place) → i < length d.places → IsInOrder d → IsChanged d.seen after i s → Extends d.acts acts
@@ -179,7 +200,7 @@ late_moves mode d i after lt order late put =
     set_moves i (Lost (ClosedFor Overdue)) lt order (is_lost d.seen after i (ClosedFor Overdue) put) (extends_one d.acts (Close (record { 0 = i }) Overdue))
     (λ all. All-push IsDoable d.acts (Close (record { 0 = i }) Overdue) all (omega (arith, lt, order.few))) (λ was. refl)
     (same (λ log stood. record {
-      goes = goes_watch put.watch (late_goes d.places d.acts log i lt stood.goes late
+      goes = goes_watch put.stays.watch (late_goes d.places d.acts log i lt stood.goes late
           (λ right omits. absurd (blameless_seen d.seen (done d.acts log) stood.tracks stood.unexposed right i omits)));
       tracks = closed_tracks d.seen after d.acts log (record { 0 = i }) Overdue put stood.tracks;
       unexposed = unexposed_put d.seen after i put stood.unexposed;
@@ -195,18 +216,18 @@ pub sent_moves : (mode : Mode) (way : Way) → ((log next : Log) → way log nex
 sent_moves mode way stays d after i peer now m lt order here doable young right opened goes tracks =
     set_moves i (Here now) lt order
     (record {
-      watch = opened.watch;
-      others = λ q other. opened.chains q;
-      here = sym (ap is_here here) ∙ order.entered i ∙ ap is_some (sym (opened.chains i));
-      claims = λ q other block. opened.claims q block;
-      right = right_same now.request (d.seen.claims i) (after.claims i) (opened.claims i) right;
+      watch = opened.stays.watch;
+      others = λ q other. opened.stays.chains q;
+      here = sym (ap is_here here) ∙ order.entered i ∙ ap is_some (sym (opened.stays.chains i));
+      claims = λ q other block. opened.stays.claims q block;
+      right = right_same now.request (d.seen.claims i) (after.claims i) (opened.stays.claims i) right;
     })
     (extends_one d.acts (Send (record { 0 = i }) m)) (λ all. All-push IsDoable d.acts (Send (record { 0 = i }) m) all doable) (λ was. young)
     (λ log next on stood. (let is = stays log next on in
     subst (Stands mode (acted d i (Here now) after (Send (record { 0 = i }) m))) (sym is) (record {
-      goes = goes_watch opened.watch (goes log (subst (way log) is on) stood);
+      goes = goes_watch opened.stays.watch (goes log (subst (way log) is on) stood);
       tracks = tracks log stood;
-      unexposed = unexposed_on d.seen after opened.claims opened.trials.told stood.unexposed;
+      unexposed = unexposed_on d.seen after opened.stays.claims opened.stays.trials.told stood.unexposed;
     })))
 
 -- a peer to which something is open, not for long, is settled
@@ -296,9 +317,17 @@ shared_low s i best = (common_low (chain_at s i) (chain_at s best.0)).0
 
 next_same : (before after : Seen) (i : ℕ) (best : PeerNo) → IsNext before after i best Nothing → IsSameSeen before after
 next_same before after i best next =
-    let opened = next.opened in
-    same_is before after opened.chains opened.claims (λ hash. sym (opened.table hash)) opened.verdicts opened.watch next.opens
-    (aims_stay before.trials after.trials i opened.trials.paid opened.trials.told next.aims.here next.aims.others)
+    let stays = next.opened.stays in
+    record {
+      watch = stays.watch;
+      chains = stays.chains;
+      claims = stays.claims;
+      table = stays.table;
+      verdicts = stays.verdicts;
+      opens = next.opens;
+      trials = aims_stay before.trials after.trials i stays.trials.paid stays.trials.told next.aims.here next.aims.others;
+      written = stays.written;
+    }
 
 ended_by : (mode : Mode) (place : Place) (peer : Peer) → place ≡ Here peer → is_idle_peer peer ≡ true → is_settled mode place ≡ true → heard_out mode peer ≡ true
 ended_by mode place peer here idle was = heard_by mode peer idle (settled_off mode (Here peer) (subst (λ (x : Place). is_settled mode x ≡ true) here was))

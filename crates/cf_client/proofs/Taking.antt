@@ -467,7 +467,7 @@ fault_named log p piece cause seen now last acts fault sendable put tracks unexp
     ∙ ap (λ (c : Table). c omits.block) (claims_asked fault.replies end)) ∙ mine.1 in
     let told : now.trials.told omits.block mine.0.hash.0 ≡ Some true =
     ap (λ (hash : Hash32). now.trials.told omits.block hash.0) mine.2
-    ∙ sym (put.trials.told omits.block omits.hash.0) ∙ read.1.1.trials.told omits.block omits.hash.0
+    ∙ sym (put.stays.trials.told omits.block omits.hash.0) ∙ read.1.1.stays.trials.told omits.block omits.hash.0
     ∙ omitting_told read.0 later p.0 tracked right omits in
     absurd (fault.spared unexposed omits.block mine.0 claim told)
 
@@ -542,7 +542,7 @@ pub faulty_moves : (mode : Mode) (d : Desk) (p : PeerNo) (piece : List ℕ) (old
     → Moves mode (Taking (Got p piece)) d (record { places = set d.places p.0 (Lost (ClosedFor cause)); seen = last; acts = acts ++ Close p cause ∷ [] })
 faulty_moves mode d p piece old cause now last acts lt none order here is_heard_out unexposes others claims watch doable put =
     set_moves p.0 (Lost (ClosedFor cause)) lt order (record {
-      watch = put.watch ∙ watch;
+      watch = put.stays.watch ∙ watch;
       others = λ q other. put.others q other ∙ others q other;
       here = sym (ap is_some put.here);
       claims = λ q other block. put.claims_others q other block ∙ claims q other block;
@@ -550,7 +550,7 @@ faulty_moves mode d p piece old cause now last acts lt none order here is_heard_
     }) (extends_none d.acts (acts ++ Close p cause ∷ []) none)
     (λ all. All-push IsDoable acts (Close p cause) doable (omega (arith, lt, order.few))) (λ was. refl)
     (taken (λ log stood. record {
-      goes = goes_watch (put.watch ∙ watch) (faulty_goes d.places log p piece old cause d.seen now last d.acts acts lt none here (start_places d log none stood) (start_tracks d log none stood) is_heard_out doable put stood.unexposed);
+      goes = goes_watch (put.stays.watch ∙ watch) (faulty_goes d.places log p piece old cause d.seen now last d.acts acts lt none here (start_places d log none stood) (start_tracks d log none stood) is_heard_out doable put stood.unexposed);
       tracks = faulty_tracks d.places log p piece old cause d.seen now last d.acts acts none here (start_places d log none stood) (start_tracks d log none stood) is_heard_out doable put;
       unexposed = unexposed_put now last p.0 put
           (unexposed_after d.places log p old d.seen (IsUnexposed now) here (start_places d log none stood) (start_tracks d log none stood) unexposes stood.unexposed);

@@ -154,7 +154,7 @@ impl<H: HeaderStore, M: Matcher> Client<H, M> {
         requires { (q : ℕ) → H.chain store q ≡ None }
         ensures reflects { IfOk result (λ c. Reflects c []) }
         ensures rule { IfOk result (λ c. rule_by c ≡ once watch) }
-        ensures words { IfOk result (λ c. greeting_by c ≡ record { moment = moment; number = nonce }) }
+        ensures greeting { IfOk result (λ c. greeting_by c ≡ record { moment = moment; number = nonce }) }
         ensures count { IfOk result (λ c. count_of c ≡ 1) }
         ensures matcher { IfOk result (λ c. matcher_by c ≡ matcher) }
     {
@@ -181,7 +181,7 @@ impl<H: HeaderStore, M: Matcher> Client<H, M> {
         requires alone { count_of self ≡ 1 }
         ensures reflects { Reflects result [] }
         ensures rule { rule_by result ≡ record { watch = watch_by self; mode = Following } }
-        ensures words { greeting_by result ≡ greeting_by self }
+        ensures greeting { greeting_by result ≡ greeting_by self }
         ensures count { count_of result ≡ 1 }
         ensures matcher { matcher_by result ≡ matcher_by self }
     {
@@ -201,7 +201,7 @@ impl<H: HeaderStore, M: Matcher> Client<H, M> {
         ensures doable { IfOk result (λ acts. All IsDoable acts.items) }
         ensures count { OnOk result (count_of self.new ≡ count_of self.old + 1) }
         ensures rule { OnOk result (rule_by self.new ≡ rule_by self.old) }
-        ensures words { greeting_by self.new ≡ greeting_by self.old }
+        ensures greeting { greeting_by self.new ≡ greeting_by self.old }
         ensures judged { OnOk result (IsUnjudged (judging_by self.old) (judging_by self.new)) }
         ensures dead { is_dead self.old ≡ true → IsErr result }
         ensures err { OnErr result (is_dead self.new ≡ true) }
@@ -227,7 +227,7 @@ impl<H: HeaderStore, M: Matcher> Client<H, M> {
             → Reflects self.new (NotDialled p name.now ∷ log)) }
         ensures count { OnOk result (count_of self.new ≡ count_of self.old + 1) }
         ensures rule { OnOk result (rule_by self.new ≡ rule_by self.old) }
-        ensures words { greeting_by self.new ≡ greeting_by self.old }
+        ensures greeting { greeting_by self.new ≡ greeting_by self.old }
         ensures judged { OnOk result (IsUnjudged (judging_by self.old) (judging_by self.new)) }
         ensures dead { is_dead self.old ≡ true → IsErr result }
         ensures err { OnErr result (is_dead self.new ≡ true) }
@@ -257,7 +257,7 @@ impl<H: HeaderStore, M: Matcher> Client<H, M> {
         ensures doable { IfOk result (λ acts. All IsDoable acts.items) }
         ensures count { count_of self.new ≡ count_of self.old }
         ensures rule { OnOk result (rule_by self.new ≡ rule_by self.old) }
-        ensures words { greeting_by self.new ≡ greeting_by self.old }
+        ensures greeting { greeting_by self.new ≡ greeting_by self.old }
         ensures judged { OnOk result (AreJudgedBy M.judges (watch_by self.old)
             (judging_by self.old) (judging_by self.new)) }
         ensures in_order { IfOk result (λ acts. (log : Log) → Reflects self.old log → AreInOrder acts.items) }
@@ -303,7 +303,7 @@ impl<H: HeaderStore, M: Matcher> Client<H, M> {
         ensures doable { IfOk result (λ acts. All IsDoable acts.items) }
         ensures count { count_of self.new ≡ count_of self.old }
         ensures rule { OnOk result (rule_by self.new ≡ rule_by self.old) }
-        ensures words { greeting_by self.new ≡ greeting_by self.old }
+        ensures greeting { greeting_by self.new ≡ greeting_by self.old }
         ensures judged { OnOk result (IsUnjudged (judging_by self.old) (judging_by self.new)) }
         ensures in_order { IfOk result (λ acts. AreInOrder acts.items) }
         ensures dead { is_dead self.old ≡ true → IsErr result }

@@ -49,7 +49,7 @@ unexposed_put before after p put none q at of e = elim (cases_eq q p) [
   | inl same1 ↦ (let no : None ≡ Some e.claimed.claim = sym (put.claims at)
       ∙ ap (λ (k : ℕ). after.claims k at) (sym same1) ∙ e.claimed.mine in cc no)
   | inr other ↦ none q at of (same_exposed before after q at of (put.claims_others q other at)
-      (put.trials.told at of) e)
+      (put.stays.trials.told at of) e)
 ]
 
 -- a message that has to do with nothing that is kept beside the peer

@@ -14,6 +14,7 @@ use Rattle.cf_frame.specs.Reading.{front_of}
 use Rattle.cf_frame.specs.Stream.{read_stream}
 use Rattle.cf_frame.proofs.Lending.{all_taken}
 use Rattle.cf_headers.specs.Chain.{Hash, Chain, Accepted, Longer, NoLonger, Unlinked, Invalid, TooHigh, accept, back_to, chain_after}
+use Rattle.cf_headers.specs.declared.change.Change.{Change}
 use Rattle.cf_headers.specs.Changes.{change_of, link_height}
 use Rattle.cf_headers.specs.Heights.{height_of}
 use Rattle.cf_headers.specs.Store.{Puts, own_of}
@@ -56,22 +57,22 @@ use Rattle.cf_dispute.specs.Claims as dispute
 use Rattle.cf_headers.specs.Rules.{same as same_bytes}
 use Rattle.cf_peer.specs.declared.peer.Request.{Request}
 use Rattle.cf_peer.specs.declared.peer.Request.TheVariants.{Nothing, Handshake, Headers as HeadersAsked, Claims as ClaimsAsked, Filters as FiltersAsked, Block as BlockAsked, Ping as PingAsked}
-use Rattle.cf_seek.specs.Opening.{Closes, IsSameElse, IsSameOpens}
+use Rattle.cf_seek.specs.Opening.{Closes, IsSameElse}
 use Rattle.cf_holds.specs.Known.{OpensAt}
 use Rattle.cf_holds.proofs.KeptOpens.{opens_closed}
 use Rattle.cf_hear.specs.Seen.{Follows}
 use Rattle.cf_tracker.specs.Seen.{Seen, IsSameSeen}
-use Rattle.cf_hear.specs.Hearing.{Gains, Gives, Retains, HearsSeen, HearsNext, Advances, Reveals, Stops, Brings, Midway, HeardFault, HeardExposed, HeardPiece, AreReplies}
+use Rattle.cf_hear.specs.Hearing.{Gains, Gives, Retains, HearsSeen, HearsNext, LeavesOthers, Advances, Reveals, Stops, Brings, Midway, HeardFault, HeardExposed, HeardPiece, AreReplies}
 use Rattle.cf_hear.specs.Exposing.{ExposesAmong, IsUnexposed}
 use Rattle.cf_hear.specs.declared.stop.HearStop.{HearStop}
 use Rattle.cf_hear.proofs.Trying.{IsOnce, gives_on, go_none, go_on, go_self, go_then, idle_by, once_by, one_empty, trials_self}
-use Rattle.cf_tables.specs.Trials.{IsSameTrials, TrialsGo, judged_if}
-use Rattle.cf_hear.proofs.Opening.{else_of, else_self, else_then, opens_claims, opens_headers, opens_news, opens_on, opens_other, opens_plain, opens_self}
+use Rattle.cf_tables.specs.Trials.{TrialsGo, judged_if}
+use Rattle.cf_hear.proofs.Opening.{closes_then, else_of, else_self, else_then, opens_claims, opens_headers, opens_news, opens_on, opens_other, opens_plain, opens_self}
 
 -- ---- what was seen
 
 pub same_seen : (s : Seen) → IsSameSeen s s
-same_seen s = record { watch = refl; chains = λ q. refl; claims = λ q block. refl; table = λ hash. refl; verdicts = λ block hash. refl; opens = opens_self s.opens; trials = trials_self s.trials }
+same_seen s = record { watch = refl; chains = λ q. refl; claims = λ q block. refl; table = λ hash. refl; verdicts = λ block hash. refl; opens = opens_self s.opens; trials = trials_self s.trials; written = refl }
 
 -- no filter changes a verdict
 pub none_judged : (aim : Bool) (watch : List (List ℕ)) (v : Verdicts) → AreSameVerdicts v (judged_if aim watch [] v)
@@ -131,10 +132,36 @@ gains_retains a b c p t news jobs x y = record {
   watch = y.watch ∙ x.watch;
   others = λ q ne. y.chains q ∙ x.others q ne;
   claims = λ q ne block. y.claims q block ∙ x.claims q ne block;
-  table = λ hash. y.table hash ∙ x.table hash;
+  table = λ hash. sym (y.table hash) ∙ x.table hash;
   verdicts = λ block hash. y.verdicts block hash ∙ x.verdicts block hash;
   opens = else_then a.opens b.opens c.opens p.0 x.opens (else_of b.opens c.opens p.0 y.opens);
   trials = go_on a.trials b.trials c.trials p.0 news jobs x.trials y.trials;
+}
+
+-- ---- what was seen of others
+
+pub leaves_self : (p : ℕ) (s : Seen) → IsSome (s.chains p) → LeavesOthers p s s
+leaves_self p s entered =
+    record { entered = entered; chains = λ q ne. refl; claims = λ q ne block. refl; watch = refl }
+
+pub leaves_then : (p : ℕ) (a b c : Seen) → LeavesOthers p a b → LeavesOthers p b c → LeavesOthers p a c
+leaves_then p a b c x y = record {
+  entered = y.entered;
+  chains = λ q ne. y.chains q ne ∙ x.chains q ne;
+  claims = λ q ne block. y.claims q ne block ∙ x.claims q ne block;
+  watch = y.watch ∙ x.watch;
+}
+
+-- no chain changed, nor what others claim
+pub leaves_chains : (p : ℕ) (before after : Seen) → IsSome (before.chains p)
+    → ((q : ℕ) → after.chains q ≡ before.chains q)
+    → ((q : ℕ) → q ≢ p → (block : Hash) → after.claims q block ≡ before.claims q block)
+    → after.watch ≡ before.watch → LeavesOthers p before after
+leaves_chains p before after entered chains claims watch = record {
+  entered = subst IsSome (sym (chains p)) entered;
+  chains = λ q ne. chains q;
+  claims = claims;
+  watch = watch;
 }
 
 -- ---- one message
@@ -163,27 +190,30 @@ other_hears seen p peer b hash t h off is f =
     )
 
 -- the block that is open to it, once its extract is kept
-pub taken_hears : (before after : Seen) (p : PeerNo) (peer : Peer) (b : Block) (t : Trail) → Holds peer (Said (BlockMessage b) ∷ t) → fetched_by (BlockMessage b) (request t) ≡ b ∷ []
-    → Follows before p.0 t → after.watch ≡ before.watch → ((q : ℕ) → after.chains q ≡ before.chains q) → IsSameTables before.claims after.claims → IsSameTable after.table (with_block before.watch b before.table)
-    → AreSameVerdicts after.verdicts before.verdicts → Closes before.opens after.opens p.0 → TrialsGo before.trials after.trials p.0 (b ∷ []) []
+pub taken_hears : (before kept after : Seen) (p : PeerNo) (peer : Peer) (b : Block) (t : Trail) → Holds peer (Said (BlockMessage b) ∷ t) → fetched_by (BlockMessage b) (request t) ≡ b ∷ []
+    → Follows before p.0 t → IsSameTable kept.table (with_block before.watch b before.table)
+    → IsSameSeen (record before { table = kept.table; trials = record before.trials { paid = kept.trials.paid } }) kept
+    → Closes kept.opens after.opens p.0 → IsSameSeen (record kept { opens = after.opens }) after
+    → TrialsGo before.trials after.trials p.0 (b ∷ []) []
     → request (Said (BlockMessage b) ∷ t) ≡ NothingOpen → HearsSeen before after p peer (BlockMessage b) t NoReply
-taken_hears before after p peer b t h brought f watch chains claims table verdicts closes trials ends = (
-  (h, refl),
-  subst (λ (bs : List Block). Gains before after p (Said (BlockMessage b) ∷ t) bs []) (sym brought) (record {
-    watch = watch;
-    follows = record {
-      chain = chains p.0 ∙ f.chain ∙ ap Some (sym (block_own b t));
-      claims = λ block. claims p.0 block ∙ f.claims block;
-      opens = opens_closed before.opens after.opens p.0 (Said (BlockMessage b) ∷ t) closes (λ on. ends);
-    };
-    others = λ q ne. chains q;
-    claims = λ q ne block. claims q block;
-    table = table;
-    verdicts = λ block hash. verdicts block hash ∙ none_judged (before.trials.aims p.0) before.watch before.verdicts block hash;
-    opens = closes.others;
-    trials = trials;
-  }),
-)
+taken_hears before kept after p peer b t h brought f table keeps closes stays trials ends =
+    let closed = closes_then before.opens kept.opens after.opens p.0 (else_of before.opens kept.opens p.0 keeps.opens) closes in (
+      (h, refl),
+      subst (λ (bs : List Block). Gains before after p (Said (BlockMessage b) ∷ t) bs []) (sym brought) (record {
+        watch = stays.watch ∙ keeps.watch;
+        follows = record {
+          chain = stays.chains p.0 ∙ keeps.chains p.0 ∙ f.chain ∙ ap Some (sym (block_own b t));
+          claims = λ block. stays.claims p.0 block ∙ keeps.claims p.0 block ∙ f.claims block;
+          opens = opens_closed before.opens after.opens p.0 (Said (BlockMessage b) ∷ t) closed (λ on. ends);
+        };
+        others = λ q ne. stays.chains q ∙ keeps.chains q;
+        claims = λ q ne block. stays.claims q block ∙ keeps.claims q block;
+        table = λ hash. sym (stays.table hash) ∙ table hash;
+        verdicts = λ block hash. stays.verdicts block hash ∙ keeps.verdicts block hash ∙ none_judged (before.trials.aims p.0) before.watch before.verdicts block hash;
+        opens = closed.others;
+        trials = trials;
+      }),
+    )
 
 -- claims change no chain, nor does a filter
 claims_own : (filter : ℕ) (stop previous : Hash32) (hashes : List Hash32) (t : Trail) → own (Said (Cfheaders filter stop previous hashes) ∷ t) ≡ own t
@@ -225,25 +255,25 @@ cause_is o fault f cause all is this = all ∙ ap (option_map cause_of_claims) i
 
 -- claims that were taken
 pub claims_hears : (before after : Seen) (p : PeerNo) (peer : Peer) (filter : ℕ) (stop previous : Hash32) (hashes : List Hash32) (t : Trail)
-    → TakesClaims peer (after.claims p.0) (Cfheaders filter stop previous hashes) t None → Follows before p.0 t → after.watch ≡ before.watch → ((q : ℕ) → after.chains q ≡ before.chains q)
-    → ((q : ℕ) → q ≢ p.0 → (block : Hash) → after.claims q block ≡ before.claims q block) → IsSameTable after.table before.table → AreSameVerdicts after.verdicts before.verdicts
-    → IsSameOpens before.opens after.opens → IsSameTrials before.trials after.trials → HearsSeen before after p peer (Cfheaders filter stop previous hashes) t NoReply
-claims_hears before after p peer filter stop previous hashes t takes f watch chains others table verdicts opens trials = (
+    → TakesClaims peer (after.claims p.0) (Cfheaders filter stop previous hashes) t None → Follows before p.0 t
+    → ((q : ℕ) → q ≢ p.0 → (block : Hash) → after.claims q block ≡ before.claims q block) → IsSameSeen (record before { claims = after.claims }) after
+    → HearsSeen before after p peer (Cfheaders filter stop previous hashes) t NoReply
+claims_hears before after p peer filter stop previous hashes t takes f others stays = (
   (takes.0, refl),
   record {
-    watch = watch;
+    watch = stays.watch;
     follows = record {
-      chain = chains p.0 ∙ f.chain ∙ ap Some (sym (claims_own filter stop previous hashes t));
+      chain = stays.chains p.0 ∙ f.chain ∙ ap Some (sym (claims_own filter stop previous hashes t));
       claims = takes.1;
-      opens = opens_on before.opens after.opens p.0 (Said (Cfheaders filter stop previous hashes) ∷ t) opens
+      opens = opens_on before.opens after.opens p.0 (Said (Cfheaders filter stop previous hashes) ∷ t) stays.opens
           (opens_claims before.opens p.0 filter stop previous hashes t f.opens);
     };
-    others = λ q ne. chains q;
+    others = λ q ne. stays.chains q;
     claims = others;
-    table = table;
-    verdicts = λ block hash. verdicts block hash ∙ none_judged (before.trials.aims p.0) before.watch before.verdicts block hash;
-    opens = else_of before.opens after.opens p.0 opens;
-    trials = go_none before.trials after.trials p.0 trials;
+    table = λ hash. sym (stays.table hash);
+    verdicts = λ block hash. stays.verdicts block hash ∙ none_judged (before.trials.aims p.0) before.watch before.verdicts block hash;
+    opens = else_of before.opens after.opens p.0 stays.opens;
+    trials = go_none before.trials after.trials p.0 stays.trials;
   },
 )
 
@@ -280,33 +310,34 @@ early_hears seen p peer hs t h early f = (
       (follows_on seen p.0 (Headers hs) t (early_own peer hs t h early) (λ block. refl) (opens_headers seen.opens p.0 hs t f.opens) f),
 )
 
--- headers that were taken
 -- what headers do to the chain that is kept they do to the own chain
-pub change_own : {o : Option Chain} {own : Chain} (hs : List Header) → o ≡ Some own
-    → change_of (link_height hs (unwrap_or o [])) (accept hs (unwrap_or o [])) ≡ change_of (link_height hs own) (accept hs own)
-change_own hs is = ap (λ (o : Option Chain). change_of (link_height hs (unwrap_or o [])) (accept hs (unwrap_or o []))) is
+pub change_own : {o : Option Chain} {own : Chain} (hs : List Header) (change : Change)
+    → change ≡ change_of (link_height hs (unwrap_or o [])) (accept hs (unwrap_or o [])) → o ≡ Some own
+    → change ≡ change_of (link_height hs own) (accept hs own)
+change_own hs change answer is =
+    answer ∙ ap (λ (o : Option Chain). change_of (link_height hs (unwrap_or o [])) (accept hs (unwrap_or o []))) is
 
+-- headers that were taken
 pub headers_hears : (before after : Seen) (p : PeerNo) (peer : Peer) (hs : List Header) (t : Trail) → Holds peer (Said (Headers hs) ∷ t) → ready t ≡ true
     → Puts before.chains after.chains p (Some (chain_after (accept hs (own_of before.chains p)) (own_of before.chains p))) → Follows before p.0 t
-    → after.watch ≡ before.watch → IsSameTables before.claims after.claims → IsSameTable before.table after.table → AreSameVerdicts after.verdicts before.verdicts
-    → IsSameOpens before.opens after.opens → IsSameTrials before.trials after.trials → HearsSeen before after p peer (Headers hs) t NoReply
-headers_hears before after p peer hs t h over puts f watch claims table verdicts opens trials =
+    → IsSameSeen (record before { chains = after.chains }) after → HearsSeen before after p peer (Headers hs) t NoReply
+headers_hears before after p peer hs t h over puts f stays =
     let mine : own_of before.chains p ≡ own t = ap (λ (o : Option Chain). unwrap_or o []) f.chain in (
       (h, refl),
       record {
-        watch = watch;
+        watch = stays.watch;
         follows = record {
           chain = puts.here ∙ ap (λ (c : Chain). Some (chain_after (accept hs c) c)) mine ∙ ap Some (sym (same_longer (accept hs (own t)) (own t)))
               ∙ ap Some (sym (ap (λ (b : Bool). if b then longer_of (accept hs (own t)) (own t) else own t) over));
-          claims = λ block. claims p.0 block ∙ f.claims block;
-          opens = opens_on before.opens after.opens p.0 (Said (Headers hs) ∷ t) opens (opens_headers before.opens p.0 hs t f.opens);
+          claims = λ block. stays.claims p.0 block ∙ f.claims block;
+          opens = opens_on before.opens after.opens p.0 (Said (Headers hs) ∷ t) stays.opens (opens_headers before.opens p.0 hs t f.opens);
         };
         others = puts.others;
-        claims = λ q ne block. claims q block;
-        table = λ hash. sym (table hash);
-        verdicts = λ block hash. verdicts block hash ∙ none_judged (before.trials.aims p.0) before.watch before.verdicts block hash;
-        opens = else_of before.opens after.opens p.0 opens;
-        trials = go_none before.trials after.trials p.0 trials;
+        claims = λ q ne block. stays.claims q block;
+        table = λ hash. sym (stays.table hash);
+        verdicts = λ block hash. stays.verdicts block hash ∙ none_judged (before.trials.aims p.0) before.watch before.verdicts block hash;
+        opens = else_of before.opens after.opens p.0 stays.opens;
+        trials = go_none before.trials after.trials p.0 stays.trials;
       },
     )
 
@@ -321,9 +352,8 @@ fault_same TooHigh own cause e = refl
 pub headers_end : (before after : Seen) (p : PeerNo) (old peer : Peer) (hs : List Header) (t : Trail) (cause : Cause) → Holds old t → ready t ≡ true
     → verdict (Said (Headers hs) ∷ t) ≡ Some cause
     → Puts before.chains after.chains p (Some (chain_after (accept hs (own_of before.chains p)) (own_of before.chains p))) → Follows before p.0 t
-    → after.watch ≡ before.watch → IsSameTables before.claims after.claims → IsSameTable before.table after.table → AreSameVerdicts after.verdicts before.verdicts
-    → IsSameOpens before.opens after.opens → IsSameTrials before.trials after.trials → HearsSeen before after p peer (Headers hs) t (Close cause)
-headers_end before after p old peer hs t cause holds over gives puts f watch claims table verdicts opens trials =
+    → IsSameSeen (record before { chains = after.chains }) after → HearsSeen before after p peer (Headers hs) t (Close cause)
+headers_end before after p old peer hs t cause holds over gives puts f stays =
     let mine : own_of before.chains p ≡ own t = ap (λ (o : Option Chain). unwrap_or o []) f.chain in
     let fault : fault_in (accept hs (own t)) ≡ Some cause =
     sym (ap (λ (b : Bool). if b then fault_in (accept hs (own t)) else None) over) ∙ sym (ap (λ (o : Option Cause). first o (fault_of (Headers hs) t)) holds.clean) ∙ gives in
@@ -331,16 +361,17 @@ headers_end before after p old peer hs t cause holds over gives puts f watch cla
     puts.here ∙ ap (λ (c : Chain). Some (chain_after (accept hs c) c)) mine ∙ ap Some (fault_same (accept hs (own t)) (own t) cause fault) ∙ sym f.chain in (
       gives,
       record {
-        watch = watch;
+        watch = stays.watch;
         chains = λ q. elim (cases_eq q p.0) [
           | inl is ↦ subst (λ (k : ℕ). after.chains k ≡ before.chains k) (sym is) here
           | inr ne ↦ puts.others q ne
         ];
-        claims = claims;
-        table = λ hash. sym (table hash);
-        verdicts = verdicts;
-        opens = opens;
-        trials = trials;
+        claims = stays.claims;
+        table = stays.table;
+        verdicts = stays.verdicts;
+        opens = stays.opens;
+        trials = stays.trials;
+        written = stays.written;
       },
     )
 

@@ -31,16 +31,16 @@ use Rattle.cf_sync.proofs.Counted.{same_use}
 use Rattle.cf_sync.proofs.Deaf.{heard_deaf, heard_on}
 use Rattle.cf_holds.proofs.TableGrows.{holds_after_piece}
 use Rattle.cf_holds.proofs.VerdictsGrow.{same_given}
-use Rattle.cf_seek.specs.Opening.{Closes, IsSameOpens}
+use Rattle.cf_seek.specs.Opening.{Closes}
 use Rattle.cf_tables.specs.Tables.{IsSameTable}
 use Rattle.cf_tables.specs.Known.{ExtractTable}
-use Rattle.cf_tables.specs.Claiming.{ForgetsClaims, IsSameTables}
+use Rattle.cf_tables.specs.Claiming.{ForgetsClaims}
 use Rattle.cf_hear.specs.Hearing.{HeardWhole, HeardFault, HeardExposed}
-use Rattle.cf_tracker.specs.Seen.{Seen}
+use Rattle.cf_tracker.specs.Seen.{Seen, IsSameSeen}
 use Rattle.cf_hear.specs.Tracks.{HasOpened, Tracks, IsPut, chain_kept}
-use Rattle.cf_tables.specs.Trials.{IsSameTrials}
-use Rattle.cf_hear.proofs.Trying.{elsewhere_self, go_on, go_self, trials_self}
-use Rattle.cf_hear.proofs.Opening.{closed_on, closes_off, closes_then, else_by, else_self, holds_by, opens_asked, opens_by, opens_kept}
+use Rattle.cf_hear.proofs.Hearing.{same_seen}
+use Rattle.cf_hear.proofs.Trying.{go_on, go_self}
+use Rattle.cf_hear.proofs.Opening.{closed_on, closes_off, closes_then, else_by, else_self, holds_by, opens_asked, opens_by, opens_kept, opens_self}
 
 -- ---- what is kept of fetched blocks, where two logs tell of the same
 
@@ -88,7 +88,7 @@ pub tracks_put : (before after : Seen) (p : ℕ) (own : Option Chain) (table : d
     → (is_connected (trail next p) ≡ true → request (trail next p) ≡ NothingOpen)
     → ((q : ℕ) → q ≢ p → part_of next q ≡ part_of log q) → IsSameBrought log next → HoldsTrials next before.trials → Tracks before log → Tracks after next
 tracks_put before after p own table log next put here claims idle others same trials tracks =
-    tracks_on before after log next put.watch put.table put.verdicts
+    tracks_on before after log next put.stays.watch (λ hash. sym (put.stays.table hash)) put.stays.verdicts
     (λ q. elim (cases_eq q p) [
       | inl is ↦ subst (λ (k : ℕ). after.chains k ≡ chain_kept (trail next k)) (sym is) (put.here ∙ here)
       | inr other ↦ put.others q other ∙ tracks.kept q ∙ sym (ap (λ (x : Part). chain_kept x.trail) (others q other))
@@ -99,37 +99,41 @@ tracks_put before after p own table log next put here claims idle others same tr
     ])
     (opens_put log next before.opens after.opens p tracks.opened put.opens.others (λ q other. ap (λ (x : Part). x.trail) (others q other))
     (opens_closed before.opens after.opens p (trail next p) put.opens idle)) same
-    (trials_same next before.trials after.trials put.trials.paid put.trials.told put.trials.aims trials) tracks
+    (trials_same next before.trials after.trials put.stays.trials.paid put.stays.trials.told put.stays.trials.aims trials) tracks
 
 -- by what a tracker's calls say: a peer is forgotten; one that claims nothing is entered
-pub put_forgotten : (before last : Seen) (p : PeerNo) → Puts before.chains last.chains p None → IsSameTable before.table last.table → ForgetsClaims before.claims last.claims p.0
-    → AreSameVerdicts last.verdicts before.verdicts → last.watch ≡ before.watch → Closes before.opens last.opens p.0 → IsSameTrials before.trials last.trials
+pub put_forgotten : (before last : Seen) (p : PeerNo) → Puts before.chains last.chains p None
+    → ForgetsClaims before.claims last.claims p.0 → Closes before.opens last.opens p.0
+    → IsSameSeen (record before { chains = last.chains; claims = last.claims; opens = last.opens }) last
     → IsPut before last p.0 None no_claims
-put_forgotten before last p puts table claims verdicts watch closes trials = record {
-  watch = watch;
+put_forgotten before last p puts claims closes stays = record {
   here = puts.here;
   others = puts.others;
   claims = claims.gone;
   claims_others = claims.others;
-  table = λ hash. sym (table hash);
-  verdicts = verdicts;
   opens = closes;
-  trials = trials;
+  stays = stays;
 }
 
-pub put_entered : (before last : Seen) (p : PeerNo) → Puts before.chains last.chains p (Some []) → IsSameTable before.table last.table → IsSameTables before.claims last.claims
-    → AreSameVerdicts last.verdicts before.verdicts → last.watch ≡ before.watch → ((block : Hash) → before.claims p.0 block ≡ None) → IsSameOpens before.opens last.opens → Closes before.opens before.opens p.0
-    → IsSameTrials before.trials last.trials → IsPut before last p.0 (Some []) no_claims
-put_entered before last p puts table claims verdicts watch none opens idle trials = record {
-  watch = watch;
+pub put_entered : (before last : Seen) (p : PeerNo) → Puts before.chains last.chains p (Some [])
+    → ((block : Hash) → before.claims p.0 block ≡ None) → Closes before.opens before.opens p.0
+    → IsSameSeen (record before { chains = last.chains }) last → IsPut before last p.0 (Some []) no_claims
+put_entered before last p puts none idle stays = record {
   here = puts.here;
   others = puts.others;
-  claims = λ block. claims p.0 block ∙ none block;
-  claims_others = λ q ne block. claims q block;
-  table = λ hash. sym (table hash);
-  verdicts = verdicts;
-  opens = closed_on before.opens last.opens p.0 opens idle;
-  trials = trials;
+  claims = λ block. stays.claims p.0 block ∙ none block;
+  claims_others = λ q ne block. stays.claims q block;
+  opens = closed_on before.opens last.opens p.0 stays.opens idle;
+  stays = record {
+    watch = stays.watch;
+    chains = λ q. refl;
+    claims = λ q block. refl;
+    table = stays.table;
+    verdicts = stays.verdicts;
+    opens = opens_self last.opens;
+    trials = stays.trials;
+    written = stays.written;
+  };
 }
 
 -- ---- the entries
@@ -212,26 +216,22 @@ pub tracks_asked : (before after : Seen) (p : PeerNo) (bytes : List ℕ) (log : 
     → (IsConnected log p.0 → AimsAt (Sent p bytes ∷ log) p.0 (after.trials.aims p.0)) → Tracks before log → Tracks after (Sent p bytes ∷ log)
 tracks_asked before after p bytes log same at aim tracks =
     let next = Sent p bytes ∷ log in
-    tracks_on before after log next same.watch same.table same.verdicts
-    (λ q. same.chains q ∙ tracks.kept q ∙ sym (sent_same (Option Chain) chain_kept p bytes log q (λ m. refl)))
-    (λ q block. same.claims q block ∙ tracks.claimed q block ∙ sym (ap (λ (t : dispute.Table). t block) (sent_same dispute.Table claims_kept p bytes log q (λ m. refl))))
+    tracks_on before after log next same.stays.watch (λ hash. sym (same.stays.table hash)) same.stays.verdicts
+    (λ q. same.stays.chains q ∙ tracks.kept q ∙ sym (sent_same (Option Chain) chain_kept p bytes log q (λ m. refl)))
+    (λ q block. same.stays.claims q block ∙ tracks.claimed q block ∙ sym (ap (λ (t : dispute.Table). t block) (sent_same dispute.Table claims_kept p bytes log q (λ m. refl))))
     (opens_put log next before.opens after.opens p.0 tracks.opened same.opens (λ q ne. ap (λ (x : Part). x.trail) (sent_others p bytes q (part_of log q) ne))
     (subst (OpensAt after.opens p.0) (sym (ap (λ (x : Part). x.trail) (sent_here p bytes (part_of log p.0)))) at))
     (record {
       blocks = λ q. sent_same (List Block) (λ t. fetched_blocks (counted t)) p bytes log q (λ m. refl);
       filters = same_gave log;
-    }) (trials_sent p bytes log before.trials after.trials same.trials.paid same.trials.told same.trials.aims aim tracks.trials) tracks
+    }) (trials_sent p bytes log before.trials after.trials same.stays.trials.paid same.stays.trials.told same.aims aim tracks.trials) tracks
 
 pub opened_self : (s : Seen) (p : ℕ) → HasOpened s s p
 opened_self s p = record {
-  watch = refl;
-  chains = λ q. refl;
-  claims = λ q block. refl;
-  table = λ hash. refl;
-  verdicts = λ block hash. refl;
   opens = else_self s.opens p;
   more = record { filters = λ q block off. off; blocks = λ q block off. off };
-  trials = elsewhere_self s.trials p;
+  aims = λ q ne. refl;
+  stays = same_seen s;
 }
 
 -- a message that asks for neither filters nor a block
@@ -272,14 +272,11 @@ none_open s log p off tracks = closes_off s.opens p (trail log p) (tracks.opened
 pub put_off : (s : Seen) (log : Log) (p : ℕ) → is_connected (trail log p) ≡ false → Tracks s log → IsPut s s p None no_claims
 put_off s log p off tracks = record {
   opens = none_open s log p off tracks;
-  watch = refl;
   here = tracks.kept p ∙ off_chain (trail log p) off;
   others = λ q ne. refl;
   claims = none_claimed s log p off tracks;
   claims_others = λ q ne block. refl;
-  table = λ hash. refl;
-  verdicts = λ block hash. refl;
-  trials = trials_self s.trials;
+  stays = same_seen s;
 }
 
 -- it goes once more
@@ -367,32 +364,29 @@ tracks_faulty p seen now last before acts piece log cause fault put tracks =
     let next = Took (Got p piece) ∷ log in
     let others : (q : ℕ) → q ≢ p.0 → part_of next q ≡ part_of log q = λ q ne. got_others p piece q (part_of log q) ne in
     let t : trail next p.0 ≡ (heard_part piece (part_of log p.0)).trail = ap (λ (x : Part). x.trail) (got_here p piece (part_of log p.0)) in (
-      record { watch = last.watch; chains = λ q. chain_kept (trail next q); claims = λ q. claims_kept (trail next q); table = last.table; verdicts = last.verdicts; opens = opens_by next; trials = last.trials },
+      record { watch = last.watch; chains = λ q. chain_kept (trail next q); claims = λ q. claims_kept (trail next q); table = last.table; verdicts = last.verdicts; opens = opens_by next; trials = last.trials; written = last.written },
       (
         record {
           kept = λ q. refl;
           claimed = λ q block. refl;
-          fetched = subst (λ (w : List (List ℕ)). HoldsFetched w next last.table) (sym (put.watch ∙ fault.kept.watch))
-              (holds_after_piece seen.watch p piece log fault.news seen.table last.table (ap (λ (x : Trail). fetched_blocks (counted x)) t ∙ fault.brings) (λ hash. put.table hash ∙ fault.kept.table hash) tracks.fetched);
-          given = subst (λ (w : List (List ℕ)). HoldsGiven w next last.verdicts) (sym (put.watch ∙ fault.kept.watch))
+          fetched = subst (λ (w : List (List ℕ)). HoldsFetched w next last.table) (sym (put.stays.watch ∙ fault.kept.watch))
+              (holds_after_piece seen.watch p piece log fault.news seen.table last.table (ap (λ (x : Trail). fetched_blocks (counted x)) t ∙ fault.brings) (λ hash. sym (put.stays.table hash) ∙ fault.kept.table hash) tracks.fetched);
+          given = subst (λ (w : List (List ℕ)). HoldsGiven w next last.verdicts) (sym (put.stays.watch ∙ fault.kept.watch))
               (verdicts_go p piece log seen.watch seen.trials seen.verdicts last.verdicts fault.jobs (ap (λ (x : Trail). given_filters (counted x)) t ∙ fault.gives)
-              (λ block hash. put.verdicts block hash ∙ fault.kept.verdicts block hash) tracks.trials tracks.given);
+              (λ block hash. put.stays.verdicts block hash ∙ fault.kept.verdicts block hash) tracks.trials tracks.given);
           opened = holds_by next;
           trials = trials_piece p piece log seen.trials last.trials fault.news fault.jobs
               (ap (λ (x : Trail). fetched_blocks (counted x)) t ∙ fault.brings) (ap (λ (x : Trail). given_filters (counted x)) t ∙ fault.gives)
-              (go_on seen.trials now.trials last.trials p.0 fault.news fault.jobs fault.kept.trials put.trials) tracks.trials;
+              (go_on seen.trials now.trials last.trials p.0 fault.news fault.jobs fault.kept.trials put.stays.trials) tracks.trials;
         },
         record {
-          watch = refl;
           here = put.here;
           others = λ q other. put.others q other ∙ fault.kept.others q other ∙ tracks.kept q ∙ sym (ap (λ (x : Part). chain_kept x.trail) (others q other));
           claims = put.claims;
           claims_others = λ q other block. put.claims_others q other block ∙ fault.kept.claims q other block ∙ tracks.claimed q block ∙ sym (ap (λ (x : Part). claims_kept x.trail block) (others q other));
-          table = λ hash. refl;
-          verdicts = λ block hash. refl;
           opens = closes_then (opens_by next) now.opens last.opens p.0
               (else_by log next seen.opens now.opens p.0 tracks.opened (λ q other. ap (λ (x : Part). x.trail) (others q other)) fault.kept.opens) put.opens;
-          trials = trials_self last.trials;
+          stays = same_seen last;
         },
       ),
     )

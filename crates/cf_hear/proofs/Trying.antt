@@ -16,15 +16,11 @@ use Rattle.cf_tables.specs.Known.{TestResults}
 use Rattle.cf_tables.specs.Trials.{IsSameTrials, Trials, TrialsGo, tested_if, with_found, with_paid}
 use Rattle.cf_sync.proofs.Idle.{no_block, no_filter, nothing_after}
 use Rattle.cf_holds.proofs.KeptAims.{brings_said}
-use Rattle.cf_hear.specs.Tracks.{IsSameElsewhere}
 
 -- ---- the same is kept
 
 pub trials_self : (s : Trials) → IsSameTrials s s
 trials_self s = record { paid = λ hash. refl; told = λ block filter. refl; aims = λ p. refl }
-
-pub elsewhere_self : (s : Trials) (p : ℕ) → IsSameElsewhere s s p
-elsewhere_self s p = record { paid = λ hash. refl; told = λ block filter. refl; aims = λ q ne. refl }
 
 -- ---- what tests find
 

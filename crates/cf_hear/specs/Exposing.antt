@@ -1,12 +1,16 @@
 -- machine: whom tests expose: who claims a filter that was found to lack what its block pays.
 use Rattle.std.specs.Prelude.{◌≡◌, ◌⊎◌, ℕ, List, Option, Some, None}
 use Rattle.cf_headers.specs.Chain.{Hash, IsIn}
+use Rattle.cf_peer.specs.declared.peer.Peer.{Peer}
 use Rattle.cf_peer.specs.declared.peer.Reaction.{Reaction}
 use Rattle.cf_peer.specs.declared.peer.Reaction.TheVariants.{Nothing as NoReply, Send, Close, Expose}
+use Rattle.cf_peer.specs.Peer.{Holds}
+use Rattle.cf_peer.specs.Trail.{Trail}
 use Rattle.cf_seek.specs.Testing.{AreUnexposed, IsExposed}
 use Rattle.cf_hear.specs.declared.stop.HearStop.{HearStop}
 use Rattle.cf_hear.specs.declared.stop.HearStop.TheVariants.{Fault, Exposed}
 use Rattle.cf_tracker.specs.Seen.{Seen}
+use Rattle.cf_hear.specs.Seen.{Follows}
 
 -- p is exposed by its claim of this block
 abbrev pub IsExposedIn : Seen → ℕ → Hash → Hash → Type 0
@@ -28,6 +32,12 @@ Exposes s p (Send m) = IsUnexposed s
 Exposes s p (Close cause) = IsUnexposed s
 Exposes s p (Expose block filter) = IsExposing s p block.0 filter.0
 
+-- what was seen with the reply to a peer that held any trail by which it was tracked, where nobody was exposed before
+abbrev pub MayExpose : Seen → Seen → ℕ → Peer → Reaction → Type 0
+MayExpose before after p peer reply =
+    (t : Trail) → Holds peer t → Follows before p t → IsUnexposed before → Exposes after p reply
+
+-- what was seen with the frame at the front of some bytes, if one is whole
 abbrev pub ExposesNext : Seen → ℕ → Option Reaction → Type 0
 ExposesNext s p None = IsUnexposed s
 ExposesNext s p (Some reply) = Exposes s p reply

@@ -1,5 +1,5 @@
 -- machine: what is taken of a piece of a peer's bytes.
-use Rattle.std.specs.Prelude.{◌≡◌, ◌≢◌, ◌⊎◌, ℕ, Bool, true, false, List, [], ◌∷◌, ◌++◌, map, Option, Some, None}
+use Rattle.std.specs.Prelude.{◌≡◌, ◌≢◌, ◌⊎◌, ◌<◌, ℕ, Bool, true, false, List, [], ◌∷◌, ◌++◌, length, map, Option, Some, None, IsSome, IfNone}
 use Rattle.std.specs.List.{AllByRecursion}
 use Rattle.cf_bytes.specs.declared.peer.PeerNo.{PeerNo}
 use Rattle.cf_block.specs.declared.tx.Block.{Block}
@@ -15,7 +15,7 @@ use Rattle.cf_peer.specs.declared.peer.Reaction.TheVariants.{Nothing as NoReply,
 use Rattle.cf_peer.specs.Trail.{Trail, Part, Said, is_connected, part_after, has_version, replies_owed, reply_to, IsReply}
 use Rattle.cf_peer.specs.Asking.{NothingOpen, claims, request, verdict, counted, fetched_blocks, fetched_by, given_filters, given_by}
 use Rattle.cf_peer.specs.Hearing.{Faulty}
-use Rattle.cf_peer.specs.Peer.{Holds, Hears}
+use Rattle.cf_peer.specs.Peer.{Holds, Hears, calm}
 use Rattle.cf_tables.specs.Tables.{IsSameTable, with_blocks}
 use Rattle.cf_tables.specs.Trials.{TrialsGo, judged_if}
 use Rattle.cf_match.specs.declared.job.Job.{Job}
@@ -49,6 +49,23 @@ HearsSeen before after p peer m t (Close cause) = Hears peer m t (Close cause) �
 HearsSeen before after p peer m t (Expose block filter) =
     Hears peer m t NoReply × Gains before after p (Said m ∷ t) (fetched_by m (request t)) (given_by m (request t))
     × ((request (Said m ∷ t) ≡ NothingOpen) × IsExposedIn after p.0 block.0 filter.0)
+
+-- what one message of a peer does that held any trail by which it was tracked
+abbrev pub HearsFrom : Seen → Seen → PeerNo → Peer → Peer → Msg → Reaction → Type 0
+HearsFrom before after p old new m reply =
+    (t : Trail) → Holds old t → Follows before p.0 t → HearsSeen before after p new m t reply
+
+-- p is still tracked; the chains and the claims of all others are as they were, and so are the watched scripts
+pub record LeavesOthers (p : ℕ) (before after : Seen) : Type 0 where
+  pub entered : IsSome (after.chains p)
+  pub chains : (q : ℕ) → q ≢ p → after.chains q ≡ before.chains q
+  pub claims : (q : ℕ) → q ≢ p → (block : Hash) → after.claims q block ≡ before.claims q block
+  pub watch : after.watch ≡ before.watch
+
+-- the bytes that wait are as they were; and where its open request was younger than 60 seconds, that of now is
+pub record KeepsPeer (before after : Peer) : Type 0 where
+  pub waits : after.framer ≡ before.framer
+  pub calm : calm before ≡ true → calm after ≡ true
 
 -- one frame was taken from the bytes, which left these, with one message, and these replies are owed to it
 pub record Advances (before after : Seen) (p : PeerNo) (bytes rest : List ℕ) (new : Peer) (t : Trail) (replies : List Msg)
@@ -86,6 +103,12 @@ goes_on (Some NoReply) = true
 goes_on (Some (Send r)) = true
 goes_on (Some (Close cause)) = false
 goes_on (Some (Expose block filter)) = false
+
+-- what is left of the bytes: those that the framer has, and those of the piece behind them. They are fewer where the
+-- reading goes on; where no frame is whole, none of the piece is left
+pub record Leaves (bytes framer piece : List ℕ) (reply : Option Reaction) : Type 0 where
+  pub whole : IfNone reply (piece ≡ [])
+  pub shorter : goes_on reply ≡ true → length (framer ++ piece) < length bytes
 
 -- replies are veracks and pongs, and none comes before the peer's version
 pub record AreReplies (replies : List Msg) (t : Trail) : Type 0 where

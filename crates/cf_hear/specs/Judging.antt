@@ -7,7 +7,7 @@ use Rattle.cf_match.specs.declared.job.Job.{Job}
 use Rattle.cf_match.specs.declared.job.Verdict.{Verdict}
 use Rattle.cf_match.specs.Verdicts.{Verdicts, AreSameVerdicts, with_verdicts}
 use Rattle.cf_tracker.specs.declared.tracker.Tracker.{Tracker}
-use Rattle.cf_tracker.specs.Tracker.{verdicts_of}
+use Rattle.cf_tracker.specs.Tracker.{verdicts_of, watch_of}
 
 -- which answers a matcher of this type may give of filters and watched scripts, and what it is afterwards
 abbrev pub Judges : Type 0 → Type 1
@@ -37,6 +37,12 @@ pub record HasJudged {M : Type 0} (judges : Judges M) (watch : List (List ℕ)) 
 -- nothing was judged, or the matcher has judged once
 abbrev pub IsJudgedBy : {M : Type 0} → Judges M → List (List ℕ) → Judging M → Judging M → Type 0
 IsJudgedBy judges watch before now = IsUnjudged before now ⊎ HasJudged judges watch before now
+
+-- between two states of a tracker and its matcher the matcher was called once, to judge by what is watched, or nothing
+-- was judged
+abbrev pub MayJudge : {H M : Type 0} {g : Ghosts H} → Judges M → Tracker H g → M → Tracker H g → M → Type 0
+MayJudge judges tracker matcher now after =
+    IsJudgedBy judges (watch_of tracker) (judging_of tracker matcher) (judging_of now after)
 
 -- the matcher has judged so many times, one after another
 abbrev pub HasJudgedTimes : {M : Type 0} → Judges M → List (List ℕ) → ℕ → Judging M → Judging M → Type 0

@@ -1,5 +1,5 @@
 //! How a peer's bytes are taken.
-ghost use Rattle.std.specs.Prelude.{◌≡◌, ◌≢◌, ◌<◌, ◌≤◌, ◌++◌, ℕ, List, [], true, Some, None, Ok, IsSome, IfOk, IfSome, IfNone, OnOk, is_none, length, false};
+ghost use Rattle.std.specs.Prelude.{◌≡◌, ◌<◌, ◌≤◌, ◌++◌, ℕ, List, [], true, Some, None, Ok, IsSome, IfOk, IfSome, OnOk, is_none, false};
 ghost use Rattle.std.specs.List.{All, list_any};
 ghost use Rattle.cf_frame.specs.{front_of};
 ghost use Rattle.cf_msg.specs.declared.msg.Msg.TheVariants.{Headers, Inv, Block as BlockMessage, Cfheaders, Cfilter};
@@ -7,15 +7,15 @@ ghost use Rattle.cf_lent.specs.{msg_of};
 ghost use Rattle.cf_peer.specs.{IsDoable, Part, heard_part, is_unknown, Holds, calm, is_idle_peer, IsReplySendable, IsRight};
 ghost use Rattle.cf_peer.specs.Trail.{Trail};
 ghost use Rattle.cf_match.specs.{AreSameVerdicts, with_verdicts};
-ghost use Rattle.cf_headers.specs.{back_to, Stays, own_of};
+ghost use Rattle.cf_headers.specs.{back_to, own_of};
 ghost use Rattle.cf_seek.specs.{Closes, IsSameElse, IsSameOpens};
-ghost use Rattle.cf_tables.specs.{IsSameTable, IsSameTold, IsSameTrials, judged_if, tested_if, IsSameTables};
-ghost use Rattle.cf_tracker.specs.{aims_of, chains_of, claims_of, opens_of, paid_of, seen_of, table_of, tests_of, trials_of, verdicts_of, watch_of};
+ghost use Rattle.cf_tables.specs.{IsSameTold, judged_if, tested_if};
+ghost use Rattle.cf_tracker.specs.{IsSameSeen, aims_of, chains_of, claims_of, opens_of, paid_of, seen_of, tests_of, trials_of, verdicts_of, watch_of};
 ghost use Rattle.cf_hear.specs.Seen.{Follows};
 ghost use Rattle.cf_dispute.specs.{blocks_of};
-ghost use Rattle.cf_hear.specs.Hearing.{HearsSeen, HearsNext, HeardPiece, goes_on};
-ghost use Rattle.cf_hear.specs.Exposing.{Exposes, ExposesAmong, ExposesLast, ExposesNext, IsUnexposed};
-ghost use Rattle.cf_hear.specs.Judging.{HasJudged, IsJudgedBy, AreJudgedBy, judging_of};
+ghost use Rattle.cf_hear.specs.Hearing.{HearsFrom, HearsNext, HeardPiece, KeepsPeer, Leaves, LeavesOthers};
+ghost use Rattle.cf_hear.specs.Exposing.{ExposesAmong, ExposesLast, ExposesNext, IsUnexposed, MayExpose};
+ghost use Rattle.cf_hear.specs.Judging.{HasJudged, AreJudgedBy, MayJudge, judging_of};
 
 use crate::lists::{hashes_in, headers_in};
 use crate::stop::HearStop;
@@ -41,20 +41,14 @@ fn hear_headers<H: HeaderStore>(
 ) -> Result<Reaction, NoMemory>
     requires entered { IsSome (chains_of tracker.old p.0) }
     requires right { IsRight peer.old.request (claims_of tracker.old p.0) }
-    ensures heard { IfOk result (λ r. (t : Trail) → Holds peer.old t → Follows (seen_of tracker.old) p.0 t
-        → HearsSeen (seen_of tracker.old) (seen_of tracker.new) p peer.new (Headers headers.now) t r) }
-    ensures exposes { IfOk result (λ r. (t : Trail) → Holds peer.old t → Follows (seen_of tracker.old) p.0 t
-        → IsUnexposed (seen_of tracker.old) → Exposes (seen_of tracker.new) p.0 r) }
+    ensures heard { IfOk result (HearsFrom (seen_of tracker.old) (seen_of tracker.new) p peer.old peer.new
+        (Headers headers.now)) }
+    ensures exposes { IfOk result (MayExpose (seen_of tracker.old) (seen_of tracker.new) p.0 peer.old) }
     ensures sendable { IfOk result IsReplySendable }
-    ensures entered { OnOk result (IsSome (chains_of tracker.new p.0)) }
+    ensures stays { OnOk result (LeavesOthers p.0 (seen_of tracker.old) (seen_of tracker.new)) }
     ensures right { OnOk result (IsRight peer.new.request (claims_of tracker.new p.0)) }
-    ensures others { OnOk result ((q : ℕ) → q ≢ p.0 → chains_of tracker.new q ≡ chains_of tracker.old q) }
-    ensures claims { OnOk result ((q : ℕ) → q ≢ p.0 → (block : List ℕ)
-        → claims_of tracker.new q block ≡ claims_of tracker.old q block) }
-    ensures watch { OnOk result (watch_of tracker.new ≡ watch_of tracker.old) }
     ensures verdicts { OnOk result (AreSameVerdicts (verdicts_of tracker.new) (verdicts_of tracker.old)) }
-    ensures waits { peer.new.framer ≡ peer.old.framer }
-    ensures calm { calm peer.old ≡ true → calm peer.new ≡ true }
+    ensures keeps { KeepsPeer peer.old peer.new }
 {
     if !peer.is_ready() {
         return Ok(Reaction::Nothing);
@@ -76,19 +70,14 @@ fn hear_block<H: HeaderStore>(
 ) -> Result<Reaction, NoMemory>
     requires entered { IsSome (chains_of tracker.old p.0) }
     requires right { IsRight peer.old.request (claims_of tracker.old p.0) }
-    ensures heard { IfOk result (λ r. (t : Trail) → Holds peer.old t → Follows (seen_of tracker.old) p.0 t
-        → HearsSeen (seen_of tracker.old) (seen_of tracker.new) p peer.new (BlockMessage block.now) t r) }
-    ensures exposes { IfOk result (λ r. (t : Trail) → Holds peer.old t → Follows (seen_of tracker.old) p.0 t
-        → IsUnexposed (seen_of tracker.old) → Exposes (seen_of tracker.new) p.0 r) }
+    ensures heard { IfOk result (HearsFrom (seen_of tracker.old) (seen_of tracker.new) p peer.old peer.new
+        (BlockMessage block.now)) }
+    ensures exposes { IfOk result (MayExpose (seen_of tracker.old) (seen_of tracker.new) p.0 peer.old) }
     ensures sendable { IfOk result IsReplySendable }
+    ensures stays { OnOk result (LeavesOthers p.0 (seen_of tracker.old) (seen_of tracker.new)) }
     ensures right { OnOk result (IsRight peer.new.request (claims_of tracker.new p.0)) }
-    ensures chains { OnOk result ((q : ℕ) → chains_of tracker.new q ≡ chains_of tracker.old q) }
-    ensures claims { OnOk result ((q : ℕ) → q ≢ p.0 → (block : List ℕ)
-        → claims_of tracker.new q block ≡ claims_of tracker.old q block) }
-    ensures watch { OnOk result (watch_of tracker.new ≡ watch_of tracker.old) }
     ensures verdicts { OnOk result (AreSameVerdicts (verdicts_of tracker.new) (verdicts_of tracker.old)) }
-    ensures waits { peer.new.framer ≡ peer.old.framer }
-    ensures calm { calm peer.old ≡ true → calm peer.new ≡ true }
+    ensures keeps { KeepsPeer peer.old peer.new }
 {
     let hash = block_hash(block.header());
     if !peer.awaits(&hash) {
@@ -131,20 +120,14 @@ fn hear_claims<H: HeaderStore>(
     requires low { p.0 ≤ 8 }
     requires entered { IsSome (chains_of tracker.old p.0) }
     requires right { IsRight peer.old.request (claims_of tracker.old p.0) }
-    ensures heard { IfOk result (λ r. (t : Trail) → Holds peer.old t → Follows (seen_of tracker.old) p.0 t
-        → HearsSeen (seen_of tracker.old)
-        (seen_of tracker.new) p peer.new (Cfheaders filter stop.now previous.now hashes.now) t r) }
-    ensures exposes { IfOk result (λ r. (t : Trail) → Holds peer.old t → Follows (seen_of tracker.old) p.0 t
-        → IsUnexposed (seen_of tracker.old) → Exposes (seen_of tracker.new) p.0 r) }
+    ensures heard { IfOk result (HearsFrom (seen_of tracker.old) (seen_of tracker.new) p peer.old peer.new
+        (Cfheaders filter stop.now previous.now hashes.now)) }
+    ensures exposes { IfOk result (MayExpose (seen_of tracker.old) (seen_of tracker.new) p.0 peer.old) }
     ensures sendable { IfOk result IsReplySendable }
+    ensures stays { OnOk result (LeavesOthers p.0 (seen_of tracker.old) (seen_of tracker.new)) }
     ensures right { OnOk result (IsRight peer.new.request (claims_of tracker.new p.0)) }
-    ensures chains { OnOk result ((q : ℕ) → chains_of tracker.new q ≡ chains_of tracker.old q) }
-    ensures claims { OnOk result ((q : ℕ) → q ≢ p.0 → (block : List ℕ)
-        → claims_of tracker.new q block ≡ claims_of tracker.old q block) }
-    ensures watch { OnOk result (watch_of tracker.new ≡ watch_of tracker.old) }
     ensures verdicts { OnOk result (AreSameVerdicts (verdicts_of tracker.new) (verdicts_of tracker.old)) }
-    ensures waits { peer.new.framer ≡ peer.old.framer }
-    ensures calm { calm peer.old ≡ true → calm peer.new ≡ true }
+    ensures keeps { KeepsPeer peer.old peer.new }
 {
     let Some(range) = peer.take_range(filter, stop) else {
         return Ok(Reaction::Nothing);
@@ -160,14 +143,9 @@ fn hear_claims<H: HeaderStore>(
 // Has the tracker let go of what was open to a peer, once nothing is.
 fn let_go<H: HeaderStore>(tracker: &mut Tracker<H>, peer: &Peer, p: PeerNo)
     ensures closes { is_idle_peer peer.now ≡ true → Closes (opens_of tracker.old) (opens_of tracker.new) p.0 }
-    ensures stays { is_idle_peer peer.now ≡ false → IsSameOpens (opens_of tracker.old) (opens_of tracker.new) }
+    ensures busy { is_idle_peer peer.now ≡ false → IsSameOpens (opens_of tracker.old) (opens_of tracker.new) }
     ensures others { IsSameElse (opens_of tracker.old) (opens_of tracker.new) p.0 }
-    ensures chains { Stays (chains_of tracker.old) (chains_of tracker.new) }
-    ensures table { IsSameTable (table_of tracker.old) (table_of tracker.new) }
-    ensures claims { IsSameTables (claims_of tracker.old) (claims_of tracker.new) }
-    ensures verdicts { AreSameVerdicts (verdicts_of tracker.new) (verdicts_of tracker.old) }
-    ensures watch { watch_of tracker.new ≡ watch_of tracker.old }
-    ensures trials { IsSameTrials (trials_of tracker.old) (trials_of tracker.new) }
+    ensures stays { IsSameSeen (record (seen_of tracker.old) { opens = opens_of tracker.new }) (seen_of tracker.new) }
 {
     if peer.is_idle() {
         tracker.answered(p);
@@ -178,14 +156,9 @@ fn let_go<H: HeaderStore>(tracker: &mut Tracker<H>, peer: &Peer, p: PeerNo)
 fn test_given<H: HeaderStore>(tracker: &mut Tracker<H>, jobs: &[Job]) -> Result<(), NoMemory>
     ensures told { OnOk result (IsSameTold (tests_of tracker.new)
         (tested_if true (paid_of tracker.old) jobs.now (tests_of tracker.old))) }
-    ensures paid { (hash : List ℕ) → paid_of tracker.new hash ≡ paid_of tracker.old hash }
-    ensures aims { (q : ℕ) → aims_of tracker.new q ≡ aims_of tracker.old q }
-    ensures opens { IsSameOpens (opens_of tracker.old) (opens_of tracker.new) }
-    ensures chains { Stays (chains_of tracker.old) (chains_of tracker.new) }
-    ensures table { IsSameTable (table_of tracker.old) (table_of tracker.new) }
-    ensures claims { IsSameTables (claims_of tracker.old) (claims_of tracker.new) }
-    ensures verdicts { AreSameVerdicts (verdicts_of tracker.new) (verdicts_of tracker.old) }
-    ensures watch { watch_of tracker.new ≡ watch_of tracker.old }
+    ensures stays { IsSameSeen
+        (record (seen_of tracker.old) { trials = record (trials_of tracker.old) { told = tests_of tracker.new } })
+        (seen_of tracker.new) }
 {
     if jobs.len() != 1 {
         return Ok(());
@@ -204,12 +177,8 @@ fn judge_given<H: HeaderStore, M: Matcher>(
         (with_verdicts (watch_of tracker.old) jobs.now (verdicts_of tracker.old))) }
     ensures judged { OnOk result (HasJudged M.judges (watch_of tracker.old)
         (judging_of tracker.old matcher.old) (judging_of tracker.new matcher.new)) }
-    ensures opens { OnOk result (IsSameOpens (opens_of tracker.old) (opens_of tracker.new)) }
-    ensures chains { OnOk result (Stays (chains_of tracker.old) (chains_of tracker.new)) }
-    ensures table { OnOk result (IsSameTable (table_of tracker.old) (table_of tracker.new)) }
-    ensures claims { OnOk result (IsSameTables (claims_of tracker.old) (claims_of tracker.new)) }
-    ensures watch { OnOk result (watch_of tracker.new ≡ watch_of tracker.old) }
-    ensures trials { OnOk result (IsSameTrials (trials_of tracker.old) (trials_of tracker.new)) }
+    ensures stays { IsSameSeen
+        (record (seen_of tracker.old) { verdicts = verdicts_of tracker.new }) (seen_of tracker.new) }
 {
     let verdicts = matcher.run(jobs, tracker.watch())?;
     tracker.judge(jobs, verdicts.as_slice())?;
@@ -226,17 +195,13 @@ fn take_given<H: HeaderStore, M: Matcher>(
 ) -> Result<(), NoMemory>
     ensures ok { OnOk result (AreSameVerdicts (verdicts_of tracker.new)
         (judged_if (aims_of tracker.old p.0) (watch_of tracker.old) jobs.now (verdicts_of tracker.old))) }
-    ensures judged { OnOk result (IsJudgedBy M.judges (watch_of tracker.old)
-        (judging_of tracker.old matcher.old) (judging_of tracker.new matcher.new)) }
+    ensures judged { OnOk result (MayJudge M.judges tracker.old matcher.old tracker.new matcher.new) }
     ensures told { OnOk result (IsSameTold (tests_of tracker.new)
         (tested_if (aims_of tracker.old p.0) (paid_of tracker.old) jobs.now (tests_of tracker.old))) }
-    ensures paid { OnOk result ((hash : List ℕ) → paid_of tracker.new hash ≡ paid_of tracker.old hash) }
-    ensures aims { OnOk result ((q : ℕ) → aims_of tracker.new q ≡ aims_of tracker.old q) }
-    ensures opens { OnOk result (IsSameOpens (opens_of tracker.old) (opens_of tracker.new)) }
-    ensures chains { OnOk result (Stays (chains_of tracker.old) (chains_of tracker.new)) }
-    ensures table { OnOk result (IsSameTable (table_of tracker.old) (table_of tracker.new)) }
-    ensures claims { OnOk result (IsSameTables (claims_of tracker.old) (claims_of tracker.new)) }
-    ensures watch { OnOk result (watch_of tracker.new ≡ watch_of tracker.old) }
+    ensures stays { IsSameSeen
+        (record (seen_of tracker.old)
+        { verdicts = verdicts_of tracker.new; trials = record (trials_of tracker.old) { told = tests_of tracker.new } })
+        (seen_of tracker.new) }
 {
     if tracker.is_test(p) {
         test_given(tracker, jobs)?;
@@ -259,20 +224,14 @@ fn hear_filter<H: HeaderStore, M: Matcher>(
 ) -> Result<Reaction, NoMemory>
     requires entered { IsSome (chains_of tracker.old p.0) }
     requires right { IsRight peer.old.request (claims_of tracker.old p.0) }
-    ensures heard { IfOk result (λ r. (t : Trail) → Holds peer.old t → Follows (seen_of tracker.old) p.0 t
-        → HearsSeen (seen_of tracker.old) (seen_of tracker.new) p peer.new (Cfilter filter block.now bytes.now) t r) }
-    ensures exposes { IfOk result (λ r. (t : Trail) → Holds peer.old t → Follows (seen_of tracker.old) p.0 t
-        → IsUnexposed (seen_of tracker.old) → Exposes (seen_of tracker.new) p.0 r) }
+    ensures heard { IfOk result (HearsFrom (seen_of tracker.old) (seen_of tracker.new) p peer.old peer.new
+        (Cfilter filter block.now bytes.now)) }
+    ensures exposes { IfOk result (MayExpose (seen_of tracker.old) (seen_of tracker.new) p.0 peer.old) }
     ensures sendable { IfOk result IsReplySendable }
+    ensures stays { OnOk result (LeavesOthers p.0 (seen_of tracker.old) (seen_of tracker.new)) }
     ensures right { OnOk result (IsRight peer.new.request (claims_of tracker.new p.0)) }
-    ensures chains { OnOk result ((q : ℕ) → chains_of tracker.new q ≡ chains_of tracker.old q) }
-    ensures claims { OnOk result ((q : ℕ) → q ≢ p.0 → (block : List ℕ)
-        → claims_of tracker.new q block ≡ claims_of tracker.old q block) }
-    ensures watch { OnOk result (watch_of tracker.new ≡ watch_of tracker.old) }
-    ensures judged { OnOk result (IsJudgedBy M.judges (watch_of tracker.old)
-        (judging_of tracker.old matcher.old) (judging_of tracker.new matcher.new)) }
-    ensures waits { peer.new.framer ≡ peer.old.framer }
-    ensures calm { calm peer.old ≡ true → calm peer.new ≡ true }
+    ensures judged { OnOk result (MayJudge M.judges tracker.old matcher.old tracker.new matcher.new) }
+    ensures keeps { KeepsPeer peer.old peer.new }
 {
     match peer.take_filter(alloc, tracker.claims(), p, filter, block, bytes)? {
         Heard::Nothing => Ok(Reaction::Nothing),
@@ -324,15 +283,12 @@ fn hear_inv<H: HeaderStore>(
     entries: EntriesView,
 ) -> Reaction
     requires { IsSome (chains_of tracker.now p.0) }
-    ensures heard { (t : Trail) → Holds peer.old t → Follows (seen_of tracker.now) p.0 t
-        → HearsSeen (seen_of tracker.now) (seen_of tracker.now) p peer.new (Inv entries.entry) t result }
-    ensures exposes { (t : Trail) → Holds peer.old t → Follows (seen_of tracker.now) p.0 t
-        → IsUnexposed (seen_of tracker.now) → Exposes (seen_of tracker.now) p.0 result }
+    ensures heard { HearsFrom (seen_of tracker.now) (seen_of tracker.now) p peer.old peer.new (Inv entries.entry) result }
+    ensures exposes { MayExpose (seen_of tracker.now) (seen_of tracker.now) p.0 peer.old result }
     ensures sendable { IsReplySendable result }
     ensures right { IsRight peer.old.request (claims_of tracker.now p.0)
         → IsRight peer.new.request (claims_of tracker.now p.0) }
-    ensures waits { peer.new.framer ≡ peer.old.framer }
-    ensures calm { calm peer.old ≡ true → calm peer.new ≡ true }
+    ensures keeps { KeepsPeer peer.old peer.new }
 {
     peer.hear_news(are_news(tracker, p, entries));
     Reaction::Nothing
@@ -350,21 +306,14 @@ fn hear<H: HeaderStore, M: Matcher>(
     requires low { p.0 ≤ 8 }
     requires entered { IsSome (chains_of tracker.old p.0) }
     requires right { IsRight peer.old.request (claims_of tracker.old p.0) }
-    ensures heard { IfOk result (λ r. (t : Trail) → Holds peer.old t → Follows (seen_of tracker.old) p.0 t
-        → HearsSeen (seen_of tracker.old) (seen_of tracker.new) p peer.new (msg_of message.entry) t r) }
-    ensures exposes { IfOk result (λ r. (t : Trail) → Holds peer.old t → Follows (seen_of tracker.old) p.0 t
-        → IsUnexposed (seen_of tracker.old) → Exposes (seen_of tracker.new) p.0 r) }
+    ensures heard { IfOk result (HearsFrom (seen_of tracker.old) (seen_of tracker.new) p peer.old peer.new
+        (msg_of message.entry)) }
+    ensures exposes { IfOk result (MayExpose (seen_of tracker.old) (seen_of tracker.new) p.0 peer.old) }
     ensures sendable { IfOk result IsReplySendable }
-    ensures entered { OnOk result (IsSome (chains_of tracker.new p.0)) }
+    ensures stays { OnOk result (LeavesOthers p.0 (seen_of tracker.old) (seen_of tracker.new)) }
     ensures right { OnOk result (IsRight peer.new.request (claims_of tracker.new p.0)) }
-    ensures others { OnOk result ((q : ℕ) → q ≢ p.0 → chains_of tracker.new q ≡ chains_of tracker.old q) }
-    ensures claims { OnOk result ((q : ℕ) → q ≢ p.0 → (block : List ℕ)
-        → claims_of tracker.new q block ≡ claims_of tracker.old q block) }
-    ensures watch { OnOk result (watch_of tracker.new ≡ watch_of tracker.old) }
-    ensures judged { OnOk result (IsJudgedBy M.judges (watch_of tracker.old)
-        (judging_of tracker.old matcher.old) (judging_of tracker.new matcher.new)) }
-    ensures waits { peer.new.framer ≡ peer.old.framer }
-    ensures calm { calm peer.old ≡ true → calm peer.new ≡ true }
+    ensures judged { OnOk result (MayJudge M.judges tracker.old matcher.old tracker.new matcher.new) }
+    ensures keeps { KeepsPeer peer.old peer.new }
 {
     match message {
         View::Headers(headers) => {
@@ -445,20 +394,13 @@ fn hear_next<H: HeaderStore, M: Matcher>(
     ensures heard { IfOk result (λ o. (t : Trail) → Holds peer.old t → Follows (seen_of tracker.old) p.0 t
         → HearsNext (seen_of tracker.old) (seen_of tracker.new) p
         (framer.old ++ piece.old) (framer.new ++ piece.new) peer.new t o) }
-    ensures whole { IfOk result (λ o. IfNone o (piece.new ≡ [])) }
+    ensures left { IfOk result (Leaves (framer.old ++ piece.old) framer.new piece.new) }
     ensures exposes { IfOk result (λ o. (t : Trail) → Holds peer.old t → Follows (seen_of tracker.old) p.0 t
         → IsUnexposed (seen_of tracker.old) → ExposesNext (seen_of tracker.new) p.0 o) }
     ensures sendable { IfOk result (λ o. IfSome o IsReplySendable) }
-    ensures shorter { IfOk result (λ o. goes_on o ≡ true
-        → length (framer.new ++ piece.new) < length (framer.old ++ piece.old)) }
-    ensures entered { OnOk result (IsSome (chains_of tracker.new p.0)) }
+    ensures stays { OnOk result (LeavesOthers p.0 (seen_of tracker.old) (seen_of tracker.new)) }
     ensures right { OnOk result (IsRight peer.new.request (claims_of tracker.new p.0)) }
-    ensures others { OnOk result ((q : ℕ) → q ≢ p.0 → chains_of tracker.new q ≡ chains_of tracker.old q) }
-    ensures claims { OnOk result ((q : ℕ) → q ≢ p.0 → (block : List ℕ)
-        → claims_of tracker.new q block ≡ claims_of tracker.old q block) }
-    ensures watch { OnOk result (watch_of tracker.new ≡ watch_of tracker.old) }
-    ensures judged { OnOk result (IsJudgedBy M.judges (watch_of tracker.old)
-        (judging_of tracker.old matcher.old) (judging_of tracker.new matcher.new)) }
+    ensures judged { OnOk result (MayJudge M.judges tracker.old matcher.old tracker.new matcher.new) }
     ensures calm { calm peer.old ≡ true → calm peer.new ≡ true }
 {
     take_bytes(framer, piece)?;
@@ -495,12 +437,8 @@ fn hear_frames<H: HeaderStore, M: Matcher>(
         → Follows (seen_of tracker.old) p.0 part.trail → IsUnexposed (seen_of tracker.old)
         → ExposesLast (seen_of tracker.new) p.0 o) }
     ensures doable { OnOk result (p.0 < 9 → All IsDoable acts.old.items → All IsDoable acts.new.items) }
-    ensures entered { OnOk result (IsSome (chains_of tracker.new p.0)) }
+    ensures stays { OnOk result (LeavesOthers p.0 (seen_of tracker.old) (seen_of tracker.new)) }
     ensures right { OnOk result (IsRight peer.new.request (claims_of tracker.new p.0)) }
-    ensures others { OnOk result ((q : ℕ) → q ≢ p.0 → chains_of tracker.new q ≡ chains_of tracker.old q) }
-    ensures claims { OnOk result ((q : ℕ) → q ≢ p.0 → (block : List ℕ)
-        → claims_of tracker.new q block ≡ claims_of tracker.old q block) }
-    ensures watch { OnOk result (watch_of tracker.new ≡ watch_of tracker.old) }
     ensures judged { OnOk result (AreJudgedBy M.judges (watch_of tracker.old)
         (judging_of tracker.old matcher.old) (judging_of tracker.new matcher.new)) }
     ensures calm { OnOk result (calm peer.old ≡ true → calm peer.new ≡ true) }
@@ -540,12 +478,8 @@ pub fn hear_piece<H: HeaderStore, M: Matcher>(
         → Follows (seen_of tracker.old) p.0 part.trail → IsUnexposed (seen_of tracker.old)
         → ExposesLast (seen_of tracker.new) p.0 o) }
     ensures doable { OnOk result (p.0 < 9 → All IsDoable acts.old.items → All IsDoable acts.new.items) }
-    ensures entered { OnOk result (IsSome (chains_of tracker.new p.0)) }
+    ensures stays { OnOk result (LeavesOthers p.0 (seen_of tracker.old) (seen_of tracker.new)) }
     ensures right { OnOk result (IsRight peer.new.request (claims_of tracker.new p.0)) }
-    ensures others { OnOk result ((q : ℕ) → q ≢ p.0 → chains_of tracker.new q ≡ chains_of tracker.old q) }
-    ensures claims { OnOk result ((q : ℕ) → q ≢ p.0 → (block : List ℕ)
-        → claims_of tracker.new q block ≡ claims_of tracker.old q block) }
-    ensures watch { OnOk result (watch_of tracker.new ≡ watch_of tracker.old) }
     ensures judged { OnOk result (AreJudgedBy M.judges (watch_of tracker.old)
         (judging_of tracker.old matcher.old) (judging_of tracker.new matcher.new)) }
     ensures calm { OnOk result (calm peer.old ≡ true → calm peer.new ≡ true) }

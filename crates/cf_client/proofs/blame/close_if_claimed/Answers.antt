@@ -26,8 +26,7 @@ returns-clause-shuts g c =
         claimed = c.is_claimed.ensures.yes c.if-not-is_claimed.false;
       },
       put_forgotten (seen_of c.args.tracker.now) (seen_of c.forget.new.self) (record { 0 = c.args.i })
-          c.forget.ensures.chains c.forget.ensures.table c.forget.ensures.claims c.forget.ensures.verdicts
-          c.forget.ensures.watch c.forget.ensures.opens c.forget.ensures.trials,
+          c.forget.ensures.chains c.forget.ensures.claims c.forget.ensures.opens c.forget.ensures.stays,
       refl,
       c.in_ok-push.ensures.items,
     )

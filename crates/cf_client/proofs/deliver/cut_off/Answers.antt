@@ -14,7 +14,7 @@ pub returns-clause-moves : goal.returns-clause-moves
 returns-clause-moves g c = λ mode.
     rw c.in_ok-push.ensures.items
     (cut_moves mode (desk c.args.tracker.now c.args.places.now c.args.acts.now.items) c.args.p (seen_of c.forget.new.self) c.requires.none (omega arith) c.requires.order
-    (put_forgotten (seen_of c.args.tracker.now) (seen_of c.forget.new.self) c.args.p c.forget.ensures.chains c.forget.ensures.table c.forget.ensures.claims c.forget.ensures.verdicts c.forget.ensures.watch c.forget.ensures.opens c.forget.ensures.trials))
+    (put_forgotten (seen_of c.args.tracker.now) (seen_of c.forget.new.self) c.args.p c.forget.ensures.chains c.forget.ensures.claims c.forget.ensures.opens c.forget.ensures.stays))
 
 pub returns-then-i-places-clause-unused : goal.returns-then-i-places-clause-unused
 returns-then-i-places-clause-unused g c = λ over mode. moves_self (desk c.args.tracker.now c.args.places.now c.args.acts.now.items) c.requires.order

@@ -1,4 +1,4 @@
-use Rattle.std.proofs.Common.{ℕ, List, ◌++◌, Option, Some, refl, sym, ◌∙◌, ap, subst}
+use Rattle.std.proofs.Common.{ℕ, List, ◌++◌, Option, Some, sym, ◌∙◌, ap, subst}
 use Rattle.std.specs.Prelude.{IfSome}
 use Rattle.cf_peer.specs.declared.peer.Reaction.{Reaction}
 use Rattle.cf_peer.specs.Trail.{heard_part}
@@ -8,7 +8,7 @@ use Rattle.cf_tracker.specs.Seen.{seen_of}
 use Rattle.cf_hear.specs.Exposing.{ExposesNext}
 use Rattle.cf_hear.specs.Hearing.{HearsNext, Midway}
 use Rattle.cf_hear.specs.Judging.{judging_of}
-use Rattle.cf_hear.proofs.Hearing.{midway_start, midway_quiet, midway_reply, midway_fault, midway_exposed, doable_with}
+use Rattle.cf_hear.proofs.Hearing.{leaves_self, leaves_then, midway_start, midway_quiet, midway_reply, midway_fault, midway_exposed, doable_with}
 use Rattle.cf_hear.proofs.Judging.{judged_none, judged_then}
 use Rattle.cf_hear.proofs.hear.hear_frames.Goals as goal
 
@@ -21,11 +21,8 @@ loop-reply-init g c = record {
       (midway_start c.args.p c.args.peer.now c.args.framer.now (seen_of c.args.tracker.now) c.args.acts.now.items
       c.args.piece.now part holds waits chain);
   doable = λ number all. all;
-  entered = c.requires.entered;
+  stays = leaves_self c.args.p.0 (seen_of c.args.tracker.now) c.requires.entered;
   right = c.requires.right;
-  others = λ q ne. refl;
-  claims = λ q ne block. refl;
-  watch = refl;
   judged = judged_none g.M.Matcher.judges (watch_of c.args.tracker.now) (judging_of c.args.tracker.now c.args.matcher.now);
   unexposed = λ part holds waits f none. none;
   quiet = λ is. is;
@@ -42,14 +39,12 @@ loop-reply-preserved-in-Nothing g c = record {
       (c.hear_next.new.framer ++ c.hear_next.new.piece) (seen_of c.args.tracker.now) (seen_of c.loop-reply.tracker) (seen_of c.hear_next.new.tracker)
       c.args.acts.now.items c.loop-reply.acts.items part (heard_part c.args.piece.now part) midway moves;
   doable = c.loop-reply.invariant.doable;
-  entered = c.in_ok-reply.ensures.entered;
+  stays = leaves_then c.args.p.0 (seen_of c.args.tracker.now) (seen_of c.loop-reply.tracker) (seen_of c.hear_next.new.tracker)
+      c.loop-reply.invariant.stays c.in_ok-reply.ensures.stays;
   right = c.in_ok-reply.ensures.right;
-  others = λ q ne. c.in_ok-reply.ensures.others q ne ∙ c.loop-reply.invariant.others q ne;
-  claims = λ q ne block. c.in_ok-reply.ensures.claims q ne block ∙ c.loop-reply.invariant.claims q ne block;
-  watch = c.in_ok-reply.ensures.watch ∙ c.loop-reply.invariant.watch;
   judged = judged_then g.M.Matcher.judges (watch_of c.args.tracker.now) (watch_of c.loop-reply.tracker) (judging_of c.args.tracker.now c.args.matcher.now)
       (judging_of c.loop-reply.tracker c.loop-reply.matcher) (judging_of c.hear_next.new.tracker c.hear_next.new.matcher)
-      c.loop-reply.invariant.judged c.loop-reply.invariant.watch c.in_ok-reply.ensures.judged;
+      c.loop-reply.invariant.judged c.loop-reply.invariant.stays.watch c.in_ok-reply.ensures.judged;
   unexposed = λ part holds waits f none.
       let midway = c.loop-reply.invariant.midway part holds waits f in
       subst (λ (o : Option Reaction). ExposesNext (seen_of c.hear_next.new.tracker) c.args.p.0 o) (c.in-Some.is ∙ ap Some c.in-Nothing.is)
@@ -69,14 +64,12 @@ loop-reply-preserved g c = record {
       c.args.acts.now.items c.loop-reply.acts.items c.push.new.self.items part (heard_part c.args.piece.now part) c.in-Send.message midway moves c.in_ok-push-in-Send.ensures.items;
   doable = λ number all. doable_with c.args.p c.in-Send.message c.loop-reply.acts.items c.push.new.self.items number (c.loop-reply.invariant.doable number all)
       (subst (λ (o : Option Reaction). IfSome o IsReplySendable) (c.in-Some.is ∙ ap Some c.in-Send.is) c.in_ok-reply.ensures.sendable) c.in_ok-push-in-Send.ensures.items;
-  entered = c.in_ok-reply.ensures.entered;
+  stays = leaves_then c.args.p.0 (seen_of c.args.tracker.now) (seen_of c.loop-reply.tracker) (seen_of c.hear_next.new.tracker)
+      c.loop-reply.invariant.stays c.in_ok-reply.ensures.stays;
   right = c.in_ok-reply.ensures.right;
-  others = λ q ne. c.in_ok-reply.ensures.others q ne ∙ c.loop-reply.invariant.others q ne;
-  claims = λ q ne block. c.in_ok-reply.ensures.claims q ne block ∙ c.loop-reply.invariant.claims q ne block;
-  watch = c.in_ok-reply.ensures.watch ∙ c.loop-reply.invariant.watch;
   judged = judged_then g.M.Matcher.judges (watch_of c.args.tracker.now) (watch_of c.loop-reply.tracker) (judging_of c.args.tracker.now c.args.matcher.now)
       (judging_of c.loop-reply.tracker c.loop-reply.matcher) (judging_of c.hear_next.new.tracker c.hear_next.new.matcher)
-      c.loop-reply.invariant.judged c.loop-reply.invariant.watch c.in_ok-reply.ensures.judged;
+      c.loop-reply.invariant.judged c.loop-reply.invariant.stays.watch c.in_ok-reply.ensures.judged;
   unexposed = λ part holds waits f none.
       let midway = c.loop-reply.invariant.midway part holds waits f in
       subst (λ (o : Option Reaction). ExposesNext (seen_of c.hear_next.new.tracker) c.args.p.0 o) (c.in-Some.is ∙ ap Some c.in-Send.is)
@@ -121,7 +114,7 @@ pub returns-in-Expose-clause-judged : goal.returns-in-Expose-clause-judged
 returns-in-Expose-clause-judged g c =
     judged_then g.M.Matcher.judges (watch_of c.args.tracker.now) (watch_of c.loop-reply.tracker) (judging_of c.args.tracker.now c.args.matcher.now)
     (judging_of c.loop-reply.tracker c.loop-reply.matcher) (judging_of c.hear_next.new.tracker c.hear_next.new.matcher)
-    c.loop-reply.invariant.judged c.loop-reply.invariant.watch c.in_ok-reply.ensures.judged
+    c.loop-reply.invariant.judged c.loop-reply.invariant.stays.watch c.in_ok-reply.ensures.judged
 
 pub returns-clause-exposes : goal.returns-clause-exposes
 returns-clause-exposes g c = λ part holds waits f none.
@@ -133,10 +126,10 @@ pub returns-in-Close-clause-judged : goal.returns-in-Close-clause-judged
 returns-in-Close-clause-judged g c =
     judged_then g.M.Matcher.judges (watch_of c.args.tracker.now) (watch_of c.loop-reply.tracker) (judging_of c.args.tracker.now c.args.matcher.now)
     (judging_of c.loop-reply.tracker c.loop-reply.matcher) (judging_of c.hear_next.new.tracker c.hear_next.new.matcher)
-    c.loop-reply.invariant.judged c.loop-reply.invariant.watch c.in_ok-reply.ensures.judged
+    c.loop-reply.invariant.judged c.loop-reply.invariant.stays.watch c.in_ok-reply.ensures.judged
 
 pub returns-clause-judged : goal.returns-clause-judged
 returns-clause-judged g c =
     judged_then g.M.Matcher.judges (watch_of c.args.tracker.now) (watch_of c.loop-reply.tracker) (judging_of c.args.tracker.now c.args.matcher.now)
     (judging_of c.loop-reply.tracker c.loop-reply.matcher) (judging_of c.hear_next.new.tracker c.hear_next.new.matcher)
-    c.loop-reply.invariant.judged c.loop-reply.invariant.watch c.in_ok-reply.ensures.judged
+    c.loop-reply.invariant.judged c.loop-reply.invariant.stays.watch c.in_ok-reply.ensures.judged

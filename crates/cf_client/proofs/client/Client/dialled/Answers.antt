@@ -24,13 +24,13 @@ invariant_of-self-2-clause-settled g c = λ alive.
     let now = seen_of c.enter.new.self in
     rw (c.in_ok-push-2.ensures.items, c.called.ensures)
     (settled_called c.args.self.now.mode c.args.self.now.places.items before now c.args.p c.requires.next
-    (record { chains = c.in_ok-enter.ensures.ok; claims = c.in_ok-enter.ensures.claims; table = c.in_ok-enter.ensures.table; verdicts = c.in_ok-enter.ensures.verdicts; opens = c.in_ok-enter.ensures.opens; trials = c.in_ok-enter.ensures.trials }) (c.args.self.now.settled c.if-self.false))
+    (record { chains = c.in_ok-enter.ensures.ok; stays = c.in_ok-enter.ensures.stays }) (c.args.self.now.settled c.if-self.false))
 
 pub invariant_of-self-2-clause-right : goal.invariant_of-self-2-clause-right
 invariant_of-self-2-clause-right g c = λ alive.
     rw (c.in_ok-push-2.ensures.items, c.called.ensures)
     (∥∥₁_map (c.args.self.now.right c.if-self.false)
-    (right_push c.args.self.now.places.items (claims_of c.args.self.now.tracker) (claims_of c.enter.new.self) (Here called_peer) c.in_ok-enter.ensures.claims tt))
+    (right_push c.args.self.now.places.items (claims_of c.args.self.now.tracker) (claims_of c.enter.new.self) (Here called_peer) c.in_ok-enter.ensures.stays.claims tt))
 
 pub returns-clause-answers : goal.returns-clause-answers
 returns-clause-answers g c = λ log reflects.
@@ -40,8 +40,8 @@ returns-clause-answers g c = λ log reflects.
     let le : length c.args.self.now.places.items ≤ c.args.p.0 = omega (arith, c.requires.next) in
     let off = past_nobody c.args.self.now.places.items log c.args.p.0 le reflects.places in
     let goes = called_goes {rule = record { watch = watch_of c.enter.new.self; mode = c.args.self.now.mode }} c.args.self.now.places.items log c.args.p c.args.name.now m c.requires.next reflects.places c.in_ok-greeting.ensures.greeting in
-    let put = put_entered before now c.args.p c.in_ok-enter.ensures.ok c.in_ok-enter.ensures.table c.in_ok-enter.ensures.claims c.in_ok-enter.ensures.verdicts c.in_ok-enter.ensures.watch
-    (none_claimed before log c.args.p.0 off reflects.tracks) c.in_ok-enter.ensures.opens (none_open before log c.args.p.0 off reflects.tracks) c.in_ok-enter.ensures.trials in
+    let put = put_entered before now c.args.p c.in_ok-enter.ensures.ok (none_claimed before log c.args.p.0 off reflects.tracks)
+    (none_open before log c.args.p.0 off reflects.tracks) c.in_ok-enter.ensures.stays in
     let next = Dialled c.args.p c.args.name.now ∷ log in
     let asks = version_asks m (trail next c.args.p.0) c.in_ok-greeting.ensures.greeting.ours in
     let tracks = tracks_sent now c.args.p (bytes_of m) m next (spelled_bytes m c.in_ok-greeting.ensures.greeting.sendable) asks.0 asks.1 (version_only m c.in_ok-greeting.ensures.greeting.ours) (tracks_dialled before now c.args.p c.args.name.now log put reflects.tracks) in
@@ -56,9 +56,9 @@ returns-clause-answers g c = λ log reflects.
     }
 
 pub returns-clause-judged : goal.returns-clause-judged
-returns-clause-judged g c = record { same = refl; kept = c.in_ok-enter.ensures.verdicts }
+returns-clause-judged g c = record { same = refl; kept = c.in_ok-enter.ensures.stays.verdicts }
 
 pub returns-clause-rule : goal.returns-clause-rule
 returns-clause-rule g c =
     let by : List (List ℕ) → Rule = λ watch. record { watch = watch; mode = c.args.self.now.mode } in
-    ap by c.in_ok-enter.ensures.watch
+    ap by c.in_ok-enter.ensures.stays.watch
