@@ -1,4 +1,4 @@
--- What holds from one moment to a later one, put together.
+-- What holds from one state of a run to a later one, put together.
 use Rattle.std.proofs.Common.{◌≡◌, ◌⊎◌, inl, inr, ℕ, ◌+◌, ◌<◌, ◌≤◌, Bool, true, false, List, [], ◌∷◌, ◌++◌, map, Option, Some, None, refl, sym, ◌∙◌, ap, subst, arith}
 use Rattle.std.specs.Prelude.{IfSome, IsSome}
 use Rattle.std.specs.List.{list_any}
@@ -15,7 +15,7 @@ use Rattle.cf_run.specs.declared.progress.Progress.{Progress}
 use Rattle.cf_wires.specs.Log.{Log, Told, Tally, Tells, tell, longer, dials}
 use Rattle.cf_wires.specs.Wires.{Made}
 use Rattle.cf_run.specs.Run.{Course, NoFailure, HasFailed, is_failure, HasNames, names_of}
-use Rattle.cf_run.specs.Moments.{SameCounts, trouble, RunState, run_state, Runs, Performs, IsOneMore, IsNoMore, Dials, Turns, IsInStep, EndsTurns, TakesTurns, TookTurns}
+use Rattle.cf_run.specs.States.{SameCounts, trouble, RunState, run_state, Runs, Performs, IsOneMore, IsNoMore, Dials, Turns, IsInStep, EndsTurns, TakesTurns, TookTurns}
 use Rattle.cf_run.specs.declared.outcome.End.{End}
 use Rattle.cf_run.specs.declared.outcome.End.TheVariants.{Tired, Ended as EndedFirst}
 use Rattle.cf_run.specs.Texts.{PutBefore, PutBy}
@@ -83,7 +83,7 @@ blamed_in (Some log) f g (inr risen) = λ failed. risen
 pub failures_blamed : (t u : Told) (f g : ℕ) (s r : Option Made) → Tells [] t → Course t u f g s r → IfSome u.log (λ log. HasFailed log → HasRisen f g)
 failures_blamed t u f g s r start course = blamed_in u.log f g (course.blamed (clean_start t.log start.content))
 
--- ---- from one moment to a later one
+-- ---- from one state to a later one
 
 pub runs_self : (a : RunState) → IsInStep a.told a.progress → Runs a a
 runs_self a step = record {

@@ -1,5 +1,5 @@
 -- What an entry changes of a peer's part, of which failed sends aren't told, and whom an act closes.
-use Rattle.std.proofs.Common.{◌≡◌, ◌≢◌, inl, inr, ℕ, List, ◌∷◌, Option, Some, None, Bool, true, false, refl, sym, ◌∙◌, ap, arith}
+use Rattle.std.proofs.Common.{◌≡◌, ◌≢◌, inl, inr, ℕ, List, ◌∷◌, Option, Some, None, Bool, true, false, refl, sym, ◌∙◌, ap, arith, if◌then◌else◌}
 use Rattle.std.specs.Prelude.{◌||◌, ◌==◌}
 use Rattle.std.specs.List.{list_any}
 use Rattle.std.proofs.lemmas.Grind.{common_steps}
@@ -16,7 +16,7 @@ use Rattle.cf_peer.specs.Trail.{Part, Asked, Lost, spelled, asks, with_item, par
 use Rattle.cf_peer.specs.Asking.{counted, fetched_blocks, given_filters}
 use Rattle.cf_sync.specs.Fetching.{counted_part}
 use Rattle.cf_sync.specs.Planned.{is_untold, before_failure, Alike}
-use Rattle.cf_run.specs.Moments.{closes}
+use Rattle.cf_run.specs.States.{closes}
 
 -- what an entry changes of a peer's part
 pub asked_connected : (b : Bool) (o : Option Msg) (part : Part) → is_connected (if b then record part { trail = asks o part.trail } else part).trail ≡ is_connected part.trail

@@ -28,7 +28,7 @@ use Rattle.cf_run.specs.declared.progress.Progress.{Progress}
 use Rattle.cf_run.specs.declared.texts.TextFail.{TextFail}
 use Rattle.cf_run.specs.declared.texts.TextFail.TheVariants.{NoMemory, Failed}
 use Rattle.cf_run.specs.Run.{WasRun}
-use Rattle.cf_run.specs.Moments.{HoldsOver}
+use Rattle.cf_run.specs.States.{HoldsOver}
 use Rattle.cf_run.specs.Texts.{AllPut, ButPut, HasBegun, HasPut, HasPutBut, HasPutSo, HavePut, IsLast, PutBefore, PutBy, PutsBegun, PutsNext, PutsOne, PutsSome, SoPut, SomePut, joined}
 use Rattle.cf_run.specs.Whole.{GivesUp, IsShort}
 use Rattle.cf_run.proofs.Courses.{puts_taken}

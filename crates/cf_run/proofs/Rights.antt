@@ -15,7 +15,7 @@ use Rattle.cf_place.specs.Places.{MayAct}
 use Rattle.cf_client.specs.declared.client.Client.{Client}
 use Rattle.cf_client.specs.Stands.{rule_by}
 use Rattle.cf_run.specs.declared.progress.Progress.{Progress}
-use Rattle.cf_run.specs.Moments.{ActsLeft, Doing, HoldsOver, Notes, is_pending, state_at}
+use Rattle.cf_run.specs.States.{ActsLeft, Doing, HoldsOver, Notes, is_pending, state_at}
 use Rattle.cf_run.specs.Run.{IsRight}
 use Rattle.cf_run.proofs.Performs.{next_left, sent_rightly, tells_more}
 use Rattle.cf_run.proofs.Turns.{told_so}

@@ -34,7 +34,7 @@ use Rattle.cf_run.specs.Names.{names_in}
 use Rattle.cf_hear.proofs.Tracking.{tracks_ended}
 use Rattle.cf_client.specs.Stands.{Reflects, IsReportOf, seen_by, rule_by, greeting_by}
 use Rattle.cf_run.specs.Run.{IsOrderly, WasOrderly, AreNumbered, IsUntaken, IsTicked, WereAskedOut, WerePinged, WasRun, RanTo, AreBytesOf, IsEnd, IsTraceOf, names_of, is_lost, NobodyLeft}
-use Rattle.cf_run.specs.Moments.{IsUnused, Notes, Doing, HoldsOver, Stopped, IsEndTold, state_at, is_pending, is_fine}
+use Rattle.cf_run.specs.States.{IsUnused, Notes, Doing, HoldsOver, Stopped, IsEndTold, state_at, is_pending, is_fine}
 use Rattle.cf_client.specs.Blameless.{AreAskedOut}
 use Rattle.cf_peer.specs.declared.act.Act.{Act}
 use Rattle.cf_holds.specs.Due.{ArePlanned}
@@ -236,8 +236,8 @@ reflects_same {H = H} {M = M} {g = g} {j = j} {log = log} same reflects = subst 
 pub rule_same : {H M : Type 0} {g : Ghosts H} {j : Judges M} {c d : Client H M g j} → d ≡ c → rule_by d ≡ rule_by c
 rule_same {H = H} {M = M} {g = g} {j = j} same = ap (λ (x : Client H M g j). rule_by x) same
 
-pub words_same : {H M : Type 0} {g : Ghosts H} {j : Judges M} {c d : Client H M g j} → d ≡ c → greeting_by d ≡ greeting_by c
-words_same {H = H} {M = M} {g = g} {j = j} same = ap (λ (x : Client H M g j). greeting_by x) same
+pub greeting_same : {H M : Type 0} {g : Ghosts H} {j : Judges M} {c d : Client H M g j} → d ≡ c → greeting_by d ≡ greeting_by c
+greeting_same {H = H} {M = M} {g = g} {j = j} same = ap (λ (x : Client H M g j). greeting_by x) same
 
 pub mode_same : {H M : Type 0} {g : Ghosts H} {j : Judges M} {c d : Client H M g j} {mode : Mode} → d ≡ c → (rule_by c).mode ≡ mode → (rule_by d).mode ≡ mode
 mode_same same is = ap (λ (r : Rule). r.mode) (rule_same same) ∙ is

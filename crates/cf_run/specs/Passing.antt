@@ -14,14 +14,14 @@ use Rattle.cf_client.specs.Stands.{count_of, rule_by, greeting_by}
 pub record CountsOne {H M : Type 0} {g : Ghosts H} {j : Judges M} (c d : Client H M g j) : Type 0 where
   pub count : count_of d ≡ count_of c + 1
   pub rule : rule_by d ≡ rule_by c
-  pub words : greeting_by d ≡ greeting_by c
+  pub greeting : greeting_by d ≡ greeting_by c
 
--- a run over new wires, whatever was answered: the versions that were sent tell these words, the first of the names were dialled, and no more deliveries were
+-- a run over new wires, whatever was answered: the versions that were sent tell this greeting, the first of the names were dialled, and no more deliveries were
 -- taken than it has turns
 pub record Passes {W : Type 0} (told : W → Told) (faults : W → ℕ) (script : W → Option Made) (keeps : W → Bool)
-    (words : Greeting) (names : List (List ℕ))
+    (greeting : Greeting) (names : List (List ℕ))
     (turns : ℕ) (before after : W) : Type 0 where
-  pub versions : HasGreeting words (told after)
+  pub versions : HasGreeting greeting (told after)
   pub first : HasDialled names (told after)
   pub most : (told after).tally.taken ≤ turns
   pub once : (told after).tally.ended ≤ 1

@@ -6,7 +6,7 @@ ghost use Rattle.cf_peer.specs.declared.mode.Mode.TheVariants.{Following};
 ghost use Rattle.cf_run.specs.Names.{names_in};
 ghost use Rattle.cf_run.specs.Passing.{Passes};
 ghost use Rattle.cf_run.specs.Run.{IsEnd, IsRight};
-ghost use Rattle.cf_run.specs.Moments.{EndsTurns, HoldsOver, IsInStep, Stopped, TakesTurns, Turned, Turns, run_state};
+ghost use Rattle.cf_run.specs.States.{EndsTurns, HoldsOver, IsInStep, Stopped, TakesTurns, Turned, Turns, run_state};
 ghost use Rattle.cf_run.specs.Texts.{AllPut, HavePut, IsLast, IsOver, PutBefore, PutsBegun, PutsNext, PutsOne, PutsSome, SomePut};
 ghost use Rattle.cf_run.specs.Versions.{KeepsGreeting};
 ghost use Rattle.cf_run.specs.Whole.{AreNewWires, EndsWithin, GivesUp, IsOutcome, LeavesWires, PutsAll};
@@ -137,7 +137,7 @@ fn follow_turn<W: Wires, H: HeaderStore, M: Matcher, T: Texts>(
     ensures versions { (called : List (List ℕ)) → HoldsOver client.old progress.old called (W.told wires.old)
         → KeepsGreeting (greeting_by client.old) (W.told wires.old) (W.told wires.new) }
     ensures rule { OnOk result (rule_by client.new ≡ rule_by client.old) }
-    ensures words { OnOk result (greeting_by client.new ≡ greeting_by client.old) }
+    ensures greeting { OnOk result (greeting_by client.new ≡ greeting_by client.old) }
     ensures taken { IfOk result (λ end. end ≡ None
         → (W.told wires.new).tally.taken ≡ (W.told wires.old).tally.taken + 1) }
     ensures untaken { IfOk result (λ end. end ≢ None
@@ -227,7 +227,7 @@ fn follower<H: HeaderStore + Drop, M: Matcher + Drop>(
     requires { (q : ℕ) → H.chain store q ≡ None }
     ensures reflects { IfOk result (λ c. Reflects c []) }
     ensures rule { IfOk result (λ c. rule_by c ≡ following watch) }
-    ensures words { IfOk result (λ c. greeting_by c ≡ record { moment = moment; number = nonce }) }
+    ensures greeting { IfOk result (λ c. greeting_by c ≡ record { moment = moment; number = nonce }) }
     ensures count { IfOk result (λ c. count_of c ≡ 1) }
 {
     let client = Client::new(alloc, watch, store, matcher, moment, nonce)?;

@@ -6,7 +6,7 @@ ghost use Rattle.cf_run.specs.Texts.{PutBefore, PutBy};
 ghost use Rattle.cf_place.specs.{MayAct, Allowed, after, entry_of, ActTells, Greeting, TellsGreeting};
 ghost use Rattle.cf_run.specs.Passing.{CountsOne, Passes};
 ghost use Rattle.cf_run.specs.Run.{AreBytesOf, HasDialled, HasNames, IsEnd, IsRight, IsTicked};
-ghost use Rattle.cf_run.specs.Moments.{Doing, HoldsOver, run_state, Runs, Performs, Dials, Turns, IsOneMore, Turned, Stopped, IsInStep, IsEndTold, EndsTurns, TakesTurns};
+ghost use Rattle.cf_run.specs.States.{Doing, HoldsOver, run_state, Runs, Performs, Dials, Turns, IsOneMore, Turned, Stopped, IsInStep, IsEndTold, EndsTurns, TakesTurns};
 ghost use Rattle.cf_client.specs.{Reflects, Answers, count_of, rule_by, greeting_by};
 ghost use Rattle.cf_run.specs.Versions.{KeepsGreeting};
 ghost use Rattle.cf_run.specs.Whole.{AreNewWires, EndsWithin, IsOutcome, LeavesWires};
@@ -80,8 +80,8 @@ fn perform_send<W: Wires>(
         → MayAct rule (Send p message.now) planned
         → Doing rule (Send p message.now ∷ more) progress.old called planned (W.told wires.old)
         → IsRight rule.mode (W.told wires.new)) }
-    ensures versions { (words : Greeting) → TellsGreeting words message.now
-        → KeepsGreeting words (W.told wires.old) (W.told wires.new) }
+    ensures versions { (greeting : Greeting) → TellsGreeting greeting message.now
+        → KeepsGreeting greeting (W.told wires.old) (W.told wires.new) }
     ensures performs { Performs
         (run_state (W.told wires.old) (W.faults wires.old) (W.script wires.old) (W.keeps wires.old) progress.old)
         (run_state (W.told wires.new) (W.faults wires.new) (W.script wires.new) (W.keeps wires.new) progress.new) }
@@ -120,7 +120,7 @@ fn perform_close<W: Wires>(
         → MayAct rule (Close p cause) planned
         → Doing rule (Close p cause ∷ more) progress.old called planned (W.told wires.old)
         → IsRight rule.mode (W.told wires.new)) }
-    ensures versions { (words : Greeting) → KeepsGreeting words (W.told wires.old) (W.told wires.new) }
+    ensures versions { (greeting : Greeting) → KeepsGreeting greeting (W.told wires.old) (W.told wires.new) }
     ensures performs { Performs
         (run_state (W.told wires.old) (W.faults wires.old) (W.script wires.old) (W.keeps wires.old) progress.old)
         (run_state (W.told wires.new) (W.faults wires.new) (W.script wires.new) (W.keeps wires.new) progress.new) }
@@ -153,8 +153,8 @@ fn perform_act<W: Wires>(
     ensures right { OnErr result ((rule : Rule) (more : List Act) (called : List (List ℕ)) (planned : Log)
         → MayAct rule act.now planned → Doing rule (act.now ∷ more) progress.old called planned (W.told wires.old)
         → IsRight rule.mode (W.told wires.new)) }
-    ensures versions { (words : Greeting) → ActTells words act.now
-        → KeepsGreeting words (W.told wires.old) (W.told wires.new) }
+    ensures versions { (greeting : Greeting) → ActTells greeting act.now
+        → KeepsGreeting greeting (W.told wires.old) (W.told wires.new) }
     ensures performs { Performs
         (run_state (W.told wires.old) (W.faults wires.old) (W.script wires.old) (W.keeps wires.old) progress.old)
         (run_state (W.told wires.new) (W.faults wires.new) (W.script wires.new) (W.keeps wires.new) progress.new) }
@@ -187,8 +187,8 @@ fn perform_acts<W: Wires>(
     ensures right { OnErr result ((rule : Rule) (called : List (List ℕ)) (planned : Log)
         → Allowed rule acts.now planned → Doing rule acts.now progress.old called planned (W.told wires.old)
         → IsRight rule.mode (W.told wires.new)) }
-    ensures versions { (words : Greeting) → All (ActTells words) acts.now
-        → KeepsGreeting words (W.told wires.old) (W.told wires.new) }
+    ensures versions { (greeting : Greeting) → All (ActTells greeting) acts.now
+        → KeepsGreeting greeting (W.told wires.old) (W.told wires.new) }
     ensures performs { Performs
         (run_state (W.told wires.old) (W.faults wires.old) (W.script wires.old) (W.keeps wires.old) progress.old)
         (run_state (W.told wires.new) (W.faults wires.new) (W.script wires.new) (W.keeps wires.new) progress.new) }
@@ -221,7 +221,7 @@ fn settle<W: Wires, H: HeaderStore, M: Matcher>(
         → KeepsGreeting (greeting_by client.old) (W.told wires.old) (W.told wires.new) }
     ensures count { OnOk result (count_of client.new ≡ count_of client.old) }
     ensures rule { OnOk result (rule_by client.new ≡ rule_by client.old) }
-    ensures words { greeting_by client.new ≡ greeting_by client.old }
+    ensures greeting { greeting_by client.new ≡ greeting_by client.old }
     ensures performs { Performs
         (run_state (W.told wires.old) (W.faults wires.old) (W.script wires.old) (W.keeps wires.old) progress.old)
         (run_state (W.told wires.new) (W.faults wires.new) (W.script wires.new) (W.keeps wires.new) progress.new) }
@@ -258,7 +258,7 @@ fn carry_out<W: Wires, H: HeaderStore, M: Matcher>(
         → KeepsGreeting (greeting_by client.old) (W.told wires.old) (W.told wires.new) }
     ensures count { OnOk result (count_of client.new ≡ count_of client.old) }
     ensures rule { OnOk result (rule_by client.new ≡ rule_by client.old) }
-    ensures words { greeting_by client.new ≡ greeting_by client.old }
+    ensures greeting { greeting_by client.new ≡ greeting_by client.old }
     ensures performs { Performs
         (run_state (W.told wires.old) (W.faults wires.old) (W.script wires.old) (W.keeps wires.old) progress.old)
         (run_state (W.told wires.new) (W.faults wires.new) (W.script wires.new) (W.keeps wires.new) progress.new) }
@@ -378,7 +378,7 @@ pub(crate) fn take_next<W: Wires, H: HeaderStore, M: Matcher>(
     ensures puts { OnOk result ((watch texts : List (List ℕ)) → PutBy watch texts (W.told wires.old)
         → PutBefore watch texts (W.told wires.new)) }
     ensures rule { OnOk result (rule_by client.new ≡ rule_by client.old) }
-    ensures words { greeting_by client.new ≡ greeting_by client.old }
+    ensures greeting { greeting_by client.new ≡ greeting_by client.old }
     ensures taken { IfOk result (λ more. more ≡ true
         → (W.told wires.new).tally.taken ≡ (W.told wires.old).tally.taken + 1) }
     ensures unended { IfOk result (λ more. more ≡ true
@@ -415,7 +415,7 @@ fn take_turn<W: Wires, H: HeaderStore, M: Matcher>(
     ensures versions { (called : List (List ℕ)) → HoldsOver client.old progress.old called (W.told wires.old)
         → KeepsGreeting (greeting_by client.old) (W.told wires.old) (W.told wires.new) }
     ensures rule { OnOk result (rule_by client.new ≡ rule_by client.old) }
-    ensures words { greeting_by client.new ≡ greeting_by client.old }
+    ensures greeting { greeting_by client.new ≡ greeting_by client.old }
     ensures taken { IfOk result
         (λ end. IfNone end ((W.told wires.new).tally.taken ≡ (W.told wires.old).tally.taken + 1)) }
     ensures untaken { IfOk result
@@ -460,7 +460,7 @@ fn dial_all<W: Wires, H: HeaderStore, M: Matcher>(
     ensures versions { HoldsOver client.old progress.old [] (W.told wires.old)
         → KeepsGreeting (greeting_by client.old) (W.told wires.old) (W.told wires.new) }
     ensures rule { OnOk result (rule_by client.new ≡ rule_by client.old) }
-    ensures words { OnOk result (greeting_by client.new ≡ greeting_by client.old) }
+    ensures greeting { OnOk result (greeting_by client.new ≡ greeting_by client.old) }
     ensures dialled { OnOk result ((W.told wires.new).tally.dials ≡ length names.now) }
     ensures first { HasNames [] (W.told wires.old) → HasDialled (names_in names.now) (W.told wires.new) }
     ensures taken { (W.told wires.new).tally.taken ≡ 0 }
@@ -492,7 +492,7 @@ pub(crate) fn dial_first<W: Wires, H: HeaderStore, M: Matcher>(
         HoldsOver client.new progress (names_in names.now) (W.told wires.new)) }
     ensures step { IfOk result (IsInStep (W.told wires.new)) }
     ensures rule { OnOk result (rule_by client.new ≡ rule_by client.old) }
-    ensures words { OnOk result (greeting_by client.new ≡ greeting_by client.old) }
+    ensures greeting { OnOk result (greeting_by client.new ≡ greeting_by client.old) }
     ensures dialled { OnOk result ((W.told wires.new).tally.dials ≡ length names.now) }
     ensures taken { (W.told wires.new).tally.taken ≡ 0 }
     ensures unended { (W.told wires.new).tally.ended ≡ 0 }
@@ -539,7 +539,7 @@ fn take_turns<W: Wires, H: HeaderStore, M: Matcher>(
     ensures versions { (called : List (List ℕ)) → HoldsOver client.old progress.old called (W.told wires.old)
         → KeepsGreeting (greeting_by client.old) (W.told wires.old) (W.told wires.new) }
     ensures rule { OnOk result (rule_by client.new ≡ rule_by client.old) }
-    ensures words { greeting_by client.new ≡ greeting_by client.old }
+    ensures greeting { greeting_by client.new ≡ greeting_by client.old }
     ensures ends { IfOk result (λ end. EndsTurns end turns (W.told wires.new).tally) }
     ensures takes { TakesTurns turns
         (run_state (W.told wires.old) (W.faults wires.old) (W.script wires.old) (W.keeps wires.old) progress.old)

@@ -4,7 +4,7 @@ use Rattle.cf_wires.specs.Log.{Told}
 use Rattle.cf_client.specs.Stands.{rule_by}
 use Rattle.cf_run.proofs.Courses.{runs_self, turns_none}
 use Rattle.cf_run.proofs.Passing.{keeps_next}
-use Rattle.cf_run.proofs.Turns.{ended_stops, holds_same, may_follow, may_held, may_rest, mode_same, reflects_same, rule_same, words_same, ended_holds}
+use Rattle.cf_run.proofs.Turns.{ended_stops, holds_same, may_follow, may_held, may_rest, mode_same, reflects_same, rule_same, greeting_same, ended_holds}
 use Rattle.cf_run.proofs.Puts.{all_by, have_then, putting_ended, some_by, some_then}
 use Rattle.cf_run.proofs.Rights.{holds_right, right_by}
 use Rattle.cf_run.proofs.follow.follow_turn.Goals as goal
@@ -112,14 +112,14 @@ returns-then-more-clause-rule g c = c.in_ok-more.ensures.rule ∙ rule_same c.in
 pub returns-clause-rule : goal.returns-clause-rule
 returns-clause-rule g c = rule_same c.in_ok-put_at_rest-2.ensures.same ∙ c.in_ok-more.ensures.rule ∙ rule_same c.in_ok-put_at_rest.ensures.same
 
-pub returns-in-NoPeers-clause-words : goal.returns-in-NoPeers-clause-words
-returns-in-NoPeers-clause-words g c = words_same c.in_ok-put_at_rest.ensures.same
+pub returns-in-NoPeers-clause-greeting : goal.returns-in-NoPeers-clause-greeting
+returns-in-NoPeers-clause-greeting g c = greeting_same c.in_ok-put_at_rest.ensures.same
 
-pub returns-then-more-clause-words : goal.returns-then-more-clause-words
-returns-then-more-clause-words g c = c.in_ok-more.ensures.words ∙ words_same c.in_ok-put_at_rest.ensures.same
+pub returns-then-more-clause-greeting : goal.returns-then-more-clause-greeting
+returns-then-more-clause-greeting g c = c.in_ok-more.ensures.greeting ∙ greeting_same c.in_ok-put_at_rest.ensures.same
 
-pub returns-clause-words : goal.returns-clause-words
-returns-clause-words g c = words_same c.in_ok-put_at_rest-2.ensures.same ∙ c.in_ok-more.ensures.words ∙ words_same c.in_ok-put_at_rest.ensures.same
+pub returns-clause-greeting : goal.returns-clause-greeting
+returns-clause-greeting g c = greeting_same c.in_ok-put_at_rest-2.ensures.same ∙ c.in_ok-more.ensures.greeting ∙ greeting_same c.in_ok-put_at_rest.ensures.same
 
 pub returns-then-more-clause-taken : goal.returns-then-more-clause-taken
 returns-then-more-clause-taken g c = λ is. c.in_ok-more.ensures.taken c.if-more.true

@@ -3,7 +3,7 @@ use Rattle.std.proofs.lemmas.Result.{err_from_is_err_and}
 use Rattle.cf_sync.specs.Fetching.{Rule}
 use Rattle.cf_client.specs.Stands.{greeting_by}
 use Rattle.cf_run.specs.declared.outcome.End.{End}
-use Rattle.cf_run.specs.Moments.{Turned}
+use Rattle.cf_run.specs.States.{Turned}
 use Rattle.cf_run.proofs.Courses.{took_more, took_none, turn_ends, turns_more, turns_over, turns_used}
 use Rattle.cf_run.proofs.Turns.{holds_same, rule_same, stops}
 use Rattle.cf_run.proofs.Versions.{keeps_then}
@@ -18,7 +18,7 @@ loop-turn-init g c = record {
   puts = λ watch called same holds were. none_have watch (g.W.Wires.told c.args.wires.now) (g.T.Texts.told c.args.texts.now) were;
   versions = λ called holds has. has;
   rule = refl;
-  words = refl;
+  greeting = refl;
   took = took_none _ c.requires.fresh c.requires.unended c.requires.step;
   fine = refl;
   same_reference = refl;
@@ -35,10 +35,10 @@ loop-turn-preserved g c = record {
       (c.loop-turn.invariant.holds called holds) (c.loop-turn.invariant.puts watch called same holds were);
   versions = λ called holds.
       keeps_then (greeting_by c.loop-turn.client) (greeting_by c.args.client.now) (g.W.Wires.told c.args.wires.now) (g.W.Wires.told c.loop-turn.wires) (g.W.Wires.told c.follow_turn.new.wires)
-      c.loop-turn.invariant.words (c.loop-turn.invariant.versions called holds)
+      c.loop-turn.invariant.greeting (c.loop-turn.invariant.versions called holds)
       (c.in_ok-end.ensures.versions called (c.loop-turn.invariant.holds called holds));
   rule = c.in_ok-end.ensures.rule ∙ c.loop-turn.invariant.rule;
-  words = c.in_ok-end.ensures.words ∙ c.loop-turn.invariant.words;
+  greeting = c.in_ok-end.ensures.greeting ∙ c.loop-turn.invariant.greeting;
   took = took_more c.loop-turn._turn c.loop-turn.invariant.took c.in_ok-end.ensures.turns
       (c.in_ok-end.ensures.taken c.in_default.is) (c.in_ok-end.ensures.unended c.in_default.is);
   fine = c.in_ok-end.ensures.fine ∙ c.loop-turn.invariant.fine;
@@ -91,12 +91,12 @@ returns-in_err-put_at_rest-clause-put_some g c = (let p = err_from_is_err_and c.
 
 pub returns-in-Some-clause-versions : goal.returns-in-Some-clause-versions
 returns-in-Some-clause-versions g c = λ called holds.
-    keeps_then (greeting_by c.loop-turn.client) (greeting_by c.args.client.now) (g.W.Wires.told c.args.wires.now) (g.W.Wires.told c.loop-turn.wires) (g.W.Wires.told c.follow_turn.new.wires) c.loop-turn.invariant.words (c.loop-turn.invariant.versions called holds)
+    keeps_then (greeting_by c.loop-turn.client) (greeting_by c.args.client.now) (g.W.Wires.told c.args.wires.now) (g.W.Wires.told c.loop-turn.wires) (g.W.Wires.told c.follow_turn.new.wires) c.loop-turn.invariant.greeting (c.loop-turn.invariant.versions called holds)
     (c.in_ok-end.ensures.versions called (c.loop-turn.invariant.holds called holds))
 
 pub returns-in_err-end-clause-versions : goal.returns-in_err-end-clause-versions
 returns-in_err-end-clause-versions g c = λ called holds.
-    keeps_then (greeting_by c.loop-turn.client) (greeting_by c.args.client.now) (g.W.Wires.told c.args.wires.now) (g.W.Wires.told c.loop-turn.wires) (g.W.Wires.told c.follow_turn.new.wires) c.loop-turn.invariant.words (c.loop-turn.invariant.versions called holds)
+    keeps_then (greeting_by c.loop-turn.client) (greeting_by c.args.client.now) (g.W.Wires.told c.args.wires.now) (g.W.Wires.told c.loop-turn.wires) (g.W.Wires.told c.follow_turn.new.wires) c.loop-turn.invariant.greeting (c.loop-turn.invariant.versions called holds)
     (c.in_err-end.ensures.versions called (c.loop-turn.invariant.holds called holds))
 
 pub returns-clause-rule : goal.returns-clause-rule

@@ -1,7 +1,7 @@
 use Rattle.std.proofs.Common.{ℕ, ◌+◌, List, take, sym, ◌∙◌, ap, subst, arith}
 use Rattle.std.proofs.lemmas.Result.{err_from_is_err_and}
 use Rattle.cf_run.specs.Names.{names_in}
-use Rattle.cf_run.specs.Moments.{HoldsOver}
+use Rattle.cf_run.specs.States.{HoldsOver}
 use Rattle.cf_run.proofs.Courses.{runs_then}
 use Rattle.cf_run.proofs.Dialling.{names_more_as, one_dialled, most_dialled}
 use Rattle.cf_client.specs.Stands.{greeting_by}
@@ -21,7 +21,7 @@ loop-name-preserved g c = record {
       (names_more_as c.args.names.now c.loop-name.name-index c.name-item.result c.as_str.result.now (omega arith) c.name-item.is c.as_str.ensures.value)
       (c.in_ok-dial_one.ensures.holds (names_in (take c.loop-name.name-index c.args.names.now)) (c.loop-name.invariant.holds start));
   versions = λ start.
-      keeps_then (greeting_by c.loop-name.client) (greeting_by c.args.client.now) (g.W.Wires.told c.args.wires.now) (g.W.Wires.told c.loop-name.wires) (g.W.Wires.told c.dial_one.new.wires) c.loop-name.invariant.words (c.loop-name.invariant.versions start)
+      keeps_then (greeting_by c.loop-name.client) (greeting_by c.args.client.now) (g.W.Wires.told c.args.wires.now) (g.W.Wires.told c.loop-name.wires) (g.W.Wires.told c.dial_one.new.wires) c.loop-name.invariant.greeting (c.loop-name.invariant.versions start)
       (c.in_ok-dial_one.ensures.versions (names_in (take c.loop-name.name-index c.args.names.now)) (c.loop-name.invariant.holds start));
   named = λ none.
       one_dialled c.args.names.now c.loop-name.name-index c.name-item.result c.as_str.result.now _ _ (omega arith) c.name-item.is c.as_str.ensures.value
@@ -31,14 +31,14 @@ loop-name-preserved g c = record {
   taken = c.in_ok-dial_one.ensures.dials.taken ∙ c.loop-name.invariant.taken;
   unended = c.in_ok-dial_one.ensures.dials.ended ∙ c.loop-name.invariant.unended;
   rule = c.in_ok-dial_one.ensures.counts.rule ∙ c.loop-name.invariant.rule;
-  words = c.in_ok-dial_one.ensures.counts.words ∙ c.loop-name.invariant.words;
+  greeting = c.in_ok-dial_one.ensures.counts.greeting ∙ c.loop-name.invariant.greeting;
   next = c.in_ok-dial_one.ensures.counts.count ∙ ap (λ (n : ℕ). n + 1) (c.loop-name.invariant.next ∙ sym c.in_ok-dial_one.ensures.one.dials);
   runs = runs_then c.loop-name.invariant.runs c.in_ok-dial_one.ensures.dials.runs;
 }
 
 pub returns-in_err-dial_one-clause-versions : goal.returns-in_err-dial_one-clause-versions
 returns-in_err-dial_one-clause-versions g c = λ start.
-    keeps_then (greeting_by c.loop-name.client) (greeting_by c.args.client.now) (g.W.Wires.told c.args.wires.now) (g.W.Wires.told c.loop-name.wires) (g.W.Wires.told c.dial_one.new.wires) c.loop-name.invariant.words (c.loop-name.invariant.versions start)
+    keeps_then (greeting_by c.loop-name.client) (greeting_by c.args.client.now) (g.W.Wires.told c.args.wires.now) (g.W.Wires.told c.loop-name.wires) (g.W.Wires.told c.dial_one.new.wires) c.loop-name.invariant.greeting (c.loop-name.invariant.versions start)
     (c.in_err-dial_one.ensures.versions (names_in (take c.loop-name.name-index c.args.names.now)) (c.loop-name.invariant.holds start))
 
 pub returns-in_err-dial_one-clause-puts : goal.returns-in_err-dial_one-clause-puts

@@ -60,7 +60,7 @@ returns-in_ok-not_dialled-in-Err-Failed-clause-versions g c = λ called holds.
 pub returns-in_ok-not_dialled-in-Err-Failed-clause-counts : goal.returns-in_ok-not_dialled-in-Err-Failed-clause-counts
 returns-in_ok-not_dialled-in-Err-Failed-clause-counts g c =
     let e = c.in_ok-not_dialled-in-Err-Failed.ensures in
-    record { count = e.count; rule = e.rule; words = e.words }
+    record { count = e.count; rule = e.rule; greeting = e.words }
 
 pub returns-in_ok-not_dialled-in-Err-Failed-clause-one : goal.returns-in_ok-not_dialled-in-Err-Failed-clause-one
 returns-in_ok-not_dialled-in-Err-Failed-clause-one g c =

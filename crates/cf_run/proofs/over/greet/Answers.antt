@@ -38,7 +38,7 @@ pub returns-clause-counts : goal.returns-clause-counts
 returns-clause-counts g c = record {
   count = c.in_ok-carry_out.ensures.count ∙ c.in_ok-acts.ensures.count;
   rule = c.in_ok-carry_out.ensures.rule ∙ c.in_ok-acts.ensures.rule;
-  words = c.in_ok-carry_out.ensures.words ∙ c.in_ok-acts.ensures.words;
+  greeting = c.in_ok-carry_out.ensures.greeting ∙ c.in_ok-acts.ensures.words;
 }
 
 pub returns-clause-performs : goal.returns-clause-performs

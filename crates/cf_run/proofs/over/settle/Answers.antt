@@ -6,7 +6,7 @@ use Rattle.cf_peer.specs.declared.peer.Cause.TheVariants.{SendFailed as SendFaul
 use Rattle.cf_run.specs.declared.progress.Progress.{Progress}
 use Rattle.cf_place.specs.Places.{Allowed, after}
 use Rattle.cf_run.specs.Run.{IsTicked}
-use Rattle.cf_run.specs.Moments.{Doing}
+use Rattle.cf_run.specs.States.{Doing}
 use Rattle.cf_sync.specs.Fetching.{Rule}
 use Rattle.cf_run.proofs.Courses.{noted_performs, performs_self, performs_then}
 use Rattle.cf_run.proofs.Ticked.{ticked_then, ticked_told}
@@ -24,7 +24,7 @@ loop-p-init g c = record {
   versions = λ called planned reflects doing has. has;
   count = refl;
   rule = refl;
-  words = refl;
+  greeting = refl;
   performs = performs_self _ c.requires.step;
 }
 
@@ -52,11 +52,11 @@ loop-p-preserved g c = record {
       let w = c.loop-p.invariant.waits called planned reflects doing in
       let used = in_count c.loop-p.client [] c.loop-p.progress called w.planned (g.W.Wires.told c.loop-p.wires) p.0 c.in-Some.ensures.some.1 w.reflects w.doing in
       let tells = c.in_ok-acts.ensures.tells w.planned (SendFailed p ∷ w.planned) used w.reflects (cut_for p w.planned) in
-      c.in_ok-perform_acts.ensures.versions (greeting_by c.args.client.now) (acts_tell_so _ _ c.in_ok-acts.acts.items _ c.loop-p.invariant.words c.deref.ensures.value tells)
+      c.in_ok-perform_acts.ensures.versions (greeting_by c.args.client.now) (acts_tell_so _ _ c.in_ok-acts.acts.items _ c.loop-p.invariant.greeting c.deref.ensures.value tells)
       (c.loop-p.invariant.versions called planned reflects doing has);
   count = c.in_ok-acts.ensures.count ∙ c.loop-p.invariant.count;
   rule = c.in_ok-acts.ensures.rule ∙ c.loop-p.invariant.rule;
-  words = c.in_ok-acts.ensures.words ∙ c.loop-p.invariant.words;
+  greeting = c.in_ok-acts.ensures.words ∙ c.loop-p.invariant.greeting;
   performs = performs_then c.loop-p.invariant.performs
       (performs_then (noted_performs _ _ _ _ c.loop-p.progress _ (ap (λ (x : Progress). x.closed) c.note_told.ensures.told) c.note_told.ensures.fewer c.loop-p.invariant.performs.runs.step) c.in_ok-perform_acts.ensures.performs);
 }
@@ -74,7 +74,7 @@ returns-in_err-perform_acts-clause-versions g c = λ called planned reflects doi
     let w = c.loop-p.invariant.waits called planned reflects doing in
     let used = in_count c.loop-p.client [] c.loop-p.progress called w.planned (g.W.Wires.told c.loop-p.wires) p.0 c.in-Some.ensures.some.1 w.reflects w.doing in
     let tells = c.in_ok-acts.ensures.tells w.planned (SendFailed p ∷ w.planned) used w.reflects (cut_for p w.planned) in
-    c.in_err-perform_acts.ensures.versions (greeting_by c.args.client.now) (acts_tell_so _ _ c.in_ok-acts.acts.items _ c.loop-p.invariant.words c.deref.ensures.value tells)
+    c.in_err-perform_acts.ensures.versions (greeting_by c.args.client.now) (acts_tell_so _ _ c.in_ok-acts.acts.items _ c.loop-p.invariant.greeting c.deref.ensures.value tells)
     (c.loop-p.invariant.versions called planned reflects doing has)
 
 pub returns-in_err-acts-clause-right : goal.returns-in_err-acts-clause-right

@@ -40,13 +40,13 @@ returns-in_err-progress-clause-passes g c =
 pub returns-in_err-end-clause-passes : goal.returns-in_err-end-clause-passes
 returns-in_err-end-clause-passes g c =
     let d = c.in_ok-progress.ensures in
-    passes_turns c.args.turns c.in_ok-client.ensures.words (to_z-of_z {w = w64} {z = c.args.moment} (search rules)) d.words d.passes
+    passes_turns c.args.turns c.in_ok-client.ensures.words (to_z-of_z {w = w64} {z = c.args.moment} (search rules)) d.greeting d.passes
     (c.in_err-end.ensures.versions (names_in c.args.names.now) d.holds) c.in_err-end.ensures.takes
 
 pub returns-clause-passes : goal.returns-clause-passes
 returns-clause-passes g c =
     let d = c.in_ok-progress.ensures in
-    passes_turns c.args.turns c.in_ok-client.ensures.words (to_z-of_z {w = w64} {z = c.args.moment} (search rules)) d.words d.passes
+    passes_turns c.args.turns c.in_ok-client.ensures.words (to_z-of_z {w = w64} {z = c.args.moment} (search rules)) d.greeting d.passes
     (c.in_ok-end.ensures.versions (names_in c.args.names.now) d.holds) c.in_ok-end.ensures.takes
 
 pub returns-in_err-client-clause-right : goal.returns-in_err-client-clause-right

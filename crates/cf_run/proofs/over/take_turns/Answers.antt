@@ -2,7 +2,7 @@ use Rattle.std.proofs.Common.{◌≡◌, ◌+◌, Option, Some, refl, ◌∙◌,
 use Rattle.std.proofs.lemmas.Result.{err_from_is_err_and}
 use Rattle.std.specs.Prelude.{IfNone, IfSome}
 use Rattle.cf_run.specs.declared.outcome.End.{End}
-use Rattle.cf_run.specs.Moments.{Turned}
+use Rattle.cf_run.specs.States.{Turned}
 use Rattle.cf_run.proofs.Courses.{took_more, took_none, turn_ends, turns_more, turns_over, turns_used}
 use Rattle.cf_run.proofs.Turns.{stops, told_end, told_unended}
 use Rattle.cf_client.specs.Stands.{greeting_by}
@@ -21,12 +21,12 @@ returns-clause-stopped g c = λ called holds.
 
 pub returns-in-Some-clause-versions : goal.returns-in-Some-clause-versions
 returns-in-Some-clause-versions g c = λ called holds.
-    keeps_then (greeting_by c.loop-turn.client) (greeting_by c.args.client.now) (g.W.Wires.told c.args.wires.now) (g.W.Wires.told c.loop-turn.wires) (g.W.Wires.told c.take_turn.new.wires) c.loop-turn.invariant.words (c.loop-turn.invariant.versions called holds)
+    keeps_then (greeting_by c.loop-turn.client) (greeting_by c.args.client.now) (g.W.Wires.told c.args.wires.now) (g.W.Wires.told c.loop-turn.wires) (g.W.Wires.told c.take_turn.new.wires) c.loop-turn.invariant.greeting (c.loop-turn.invariant.versions called holds)
     (c.in_ok-end.ensures.versions called (c.loop-turn.invariant.holds called holds))
 
 pub returns-in_err-end-clause-versions : goal.returns-in_err-end-clause-versions
 returns-in_err-end-clause-versions g c = λ called holds.
-    keeps_then (greeting_by c.loop-turn.client) (greeting_by c.args.client.now) (g.W.Wires.told c.args.wires.now) (g.W.Wires.told c.loop-turn.wires) (g.W.Wires.told c.take_turn.new.wires) c.loop-turn.invariant.words (c.loop-turn.invariant.versions called holds)
+    keeps_then (greeting_by c.loop-turn.client) (greeting_by c.args.client.now) (g.W.Wires.told c.args.wires.now) (g.W.Wires.told c.loop-turn.wires) (g.W.Wires.told c.take_turn.new.wires) c.loop-turn.invariant.greeting (c.loop-turn.invariant.versions called holds)
     (c.in_err-end.ensures.versions called (c.loop-turn.invariant.holds called holds))
 
 pub returns-in-Some-clause-ends : goal.returns-in-Some-clause-ends
@@ -57,7 +57,7 @@ loop-turn-init g c = record {
   holds = λ called holds. holds;
   versions = λ called holds has. has;
   rule = refl;
-  words = refl;
+  greeting = refl;
   took = took_none _ c.requires.fresh c.requires.unended c.requires.step;
 }
 
@@ -68,10 +68,10 @@ loop-turn-preserved g c = record {
       (c.in_ok-end.ensures.turned called (c.loop-turn.invariant.holds called holds));
   versions = λ called holds.
       keeps_then (greeting_by c.loop-turn.client) (greeting_by c.args.client.now) (g.W.Wires.told c.args.wires.now) (g.W.Wires.told c.loop-turn.wires) (g.W.Wires.told c.take_turn.new.wires)
-      c.loop-turn.invariant.words (c.loop-turn.invariant.versions called holds)
+      c.loop-turn.invariant.greeting (c.loop-turn.invariant.versions called holds)
       (c.in_ok-end.ensures.versions called (c.loop-turn.invariant.holds called holds));
   rule = c.in_ok-end.ensures.rule ∙ c.loop-turn.invariant.rule;
-  words = c.in_ok-end.ensures.words ∙ c.loop-turn.invariant.words;
+  greeting = c.in_ok-end.ensures.greeting ∙ c.loop-turn.invariant.greeting;
   took = took_more c.loop-turn._turn c.loop-turn.invariant.took c.in_ok-end.ensures.turns
       (subst (λ (o : Option End). IfNone o ((g.W.Wires.told c.take_turn.new.wires).tally.taken ≡ (g.W.Wires.told c.loop-turn.wires).tally.taken + 1)) c.in_default.is c.in_ok-end.ensures.taken)
       (told_unended c.in_ok-end.field-0 (g.W.Wires.told c.loop-turn.wires).tally (g.W.Wires.told c.take_turn.new.wires).tally c.in_default.is c.in_ok-end.ensures.ended);

@@ -142,7 +142,7 @@ pub record SameCounts (t u : Told) : Type 0 where
   pub named : (called : List (List ℕ)) → HasNames called t → HasNames called u
   pub puts : (watch texts : List (List ℕ)) → PutBefore watch texts t → PutBefore watch texts u
 
--- the run at a moment: what its wires told, how often what is outside has failed, their script, whether they keep their log, and the run's own notes
+-- the state of a run: what its wires told, how often what is outside has failed, their script, whether they keep their log, and the run's own notes
 pub record RunState : Type 0 where
   pub told : Told
   pub faults : ℕ
@@ -150,15 +150,15 @@ pub record RunState : Type 0 where
   pub keeps : Bool
   pub progress : Progress
 
--- the moment at which wires and run are so
+-- the state in which wires and run are so
 abbrev pub run_state : Told → ℕ → Option Made → Bool → Progress → RunState
 run_state told faults script keeps progress = record { told = told; faults = faults; script = script; keeps = keeps; progress = progress }
 
--- the moment of these wires, of which this is told
+-- the state of these wires, of which this is told
 abbrev pub run_at : {W : Type 0} → (W → Told) → (W → ℕ) → (W → Option Made) → (W → Bool) → W → Progress → RunState
 run_at told faults script keeps wires progress = run_state (told wires) (faults wires) (script wires) (keeps wires) progress
 
--- from one moment to a later one, whatever was answered
+-- from one state to a later one, whatever was answered
 pub record Runs (a b : RunState) : Type 0 where
   pub course : Course a.told b.told a.faults b.faults a.script b.script
   pub keeps : b.keeps ≡ a.keeps
