@@ -1,11 +1,12 @@
 -- machine: what a run keeps from one step to the next, and what each step does of it.
-use Rattle.std.specs.Prelude.{◌≡◌, ◌⊎◌, ℕ, ◌+◌, ◌≤◌, ◌<◌, ◌==◌, ◌||◌, Bool, true, false, List, [], ◌∷◌, ◌++◌, replicate, reverse, slice_index_or, Option, Some, None}
+use Rattle.std.specs.Prelude.{◌≡◌, ◌≢◌, ◌⊎◌, ℕ, ◌+◌, ◌≤◌, ◌<◌, ◌==◌, ◌||◌, Bool, true, false, List, [], ◌∷◌, ◌++◌, replicate, reverse, slice_index_or, Option, Some, None}
 use Rattle.std.specs.List.{sum_by, list_any}
 use Rattle.cf_headers.specs.declared.store.HeaderStore.{Ghosts}
 use Rattle.cf_match.specs.declared.matcher.Matcher.{Ghosts as Judges}
 use Rattle.cf_peer.specs.declared.act.Act.{Act}
 use Rattle.cf_peer.specs.declared.act.Act.TheVariants.{Send, Close}
-use Rattle.cf_peer.specs.declared.mode.Mode.TheVariants.{Following}
+use Rattle.cf_peer.specs.declared.mode.Mode.{Mode}
+use Rattle.cf_peer.specs.declared.mode.Mode.TheVariants.{Once, Following}
 use Rattle.cf_wires.specs.Log.{Log, Told, Tally, Tells, tally_of}
 use Rattle.cf_wires.specs.Wires.{Made}
 use Rattle.cf_peer.specs.Trail.{trail, is_connected, has_failed}
@@ -227,10 +228,21 @@ abbrev pub Turned : {H M : Type 0} → {g : Ghosts H} {j : Judges M} → Option 
 Turned None c progress called t = HoldsOver c progress called t
 Turned (Some end) c progress called t = Stopped end c progress called t
 
--- a turn tells the end once where the run ends for it, and else not at all
-abbrev pub IsEndTold : Option End → Tally → Tally → Type 0
-IsEndTold None before after = after.ended ≡ before.ended
-IsEndTold (Some Synced) before after = after.ended ≡ before.ended
-IsEndTold (Some NoPeers) before after = after.ended ≡ before.ended
-IsEndTold (Some Tired) before after = after.ended ≡ before.ended
-IsEndTold (Some EndedFirst) before after = after.ended ≡ before.ended + 1
+-- whether a turn that ends so tells the end: once where the run ends for it, and else not at all; of a client that follows the end is told once, unless no peer is left
+abbrev pub IsEndTold : Mode → End → Tally → Tally → Type 0
+IsEndTold Once Synced before after = after.ended ≡ before.ended
+IsEndTold Once NoPeers before after = after.ended ≡ before.ended
+IsEndTold Once Tired before after = after.ended ≡ before.ended
+IsEndTold Once EndedFirst before after = after.ended ≡ before.ended + 1
+IsEndTold Following Synced before after = after.ended ≡ before.ended + 1
+IsEndTold Following NoPeers before after = Unit {0}
+IsEndTold Following Tired before after = after.ended ≡ before.ended + 1
+IsEndTold Following EndedFirst before after = after.ended ≡ before.ended + 1
+
+-- what a turn counts: where the run goes on one delivery was taken, and the end wasn't told; where it ends none was, and it isn't for want of turns
+pub record CountsTurn (mode : Mode) (end : Option End) (before after : Tally) : Type 0 where
+  pub taken : end ≡ None → after.taken ≡ before.taken + 1
+  pub unended : end ≡ None → after.ended ≡ before.ended
+  pub untaken : (e : End) → end ≡ Some e → after.taken ≡ before.taken
+  pub untired : end ≢ Some Tired
+  pub ended : (e : End) → end ≡ Some e → IsEndTold mode e before after
