@@ -360,7 +360,12 @@ counted_end mode end before after untired taken told = record {
   ended = λ e is. subst (λ (x : End). IsEndTold mode x before after) (cc is) told;
 }
 
--- the wires had no more to give
+-- and the wires had no more to give
+pub counted_over : (mode : Mode) (end : End) (t u : Told) → (end ≡ Tired → ⊥) → u ≡ tell (Took Ended) t
+    → IsEndTold mode end t.tally (tell (Took Ended) t).tally → CountsTurn mode (Some end) t.tally u.tally
+counted_over mode end t u untired is told =
+    subst (λ (x : Told). CountsTurn mode (Some end) t.tally x.tally) (sym is) (counted_end mode end t.tally (tell (Took Ended) t).tally untired refl told)
+
 pub told_following : (end : End) (before after : Tally) → after.ended ≡ before.ended + 1 → IsEndTold Following end before after
 told_following Synced before after told = told
 told_following NoPeers before after told = tt

@@ -16,11 +16,8 @@ use Rattle.cf_client.specs.declared.client.Client.{Client}
 use Rattle.cf_run.specs.declared.outcome.End.{End}
 use Rattle.cf_run.specs.declared.progress.Progress.{Progress}
 use Rattle.cf_run.specs.Passing.{Passes}
-use Rattle.cf_place.specs.declared.state.State.{State}
-use Rattle.cf_place.specs.declared.state.State.TheVariants.{NoPeers as HasNoPeers}
-use Rattle.cf_place.specs.Standing.{IsState, Greeting}
+use Rattle.cf_place.specs.Standing.{Greeting}
 use Rattle.cf_client.specs.Stands.{Answers, Reflects, rule_by, greeting_by}
-use Rattle.cf_peer.specs.declared.mode.Mode.TheVariants.{Following}
 use Rattle.cf_sync.specs.Fetching.{MayTake}
 use Rattle.cf_run.specs.Run.{AreBytesOf, Course, HasDialled, HasNames, NoFailure}
 use Rattle.cf_run.specs.States.{Doing, HoldsOver, IsUnused, RunState, Runs, Performs, Dials, IsInStep, Stopped, EndsTurns, TakesTurns, run_at}
@@ -28,7 +25,7 @@ use Rattle.cf_run.specs.Versions.{HasGreeting, KeepsGreeting}
 use Rattle.cf_run.specs.Whole.{AreNewWires, EndsWithin, LeavesWires}
 use Rattle.cf_run.proofs.Courses.{course_on, told_runs, failed_runs, failures_blamed, dialled_one, missed_one, dials_then, dials_alone}
 use Rattle.cf_run.proofs.Dialling.{none_dialled, none_named, dialled_on}
-use Rattle.cf_run.proofs.Turns.{dial_doing, doing_rule, holds_same, may_held, no_peers, starts, took_doing, greeting_same}
+use Rattle.cf_run.proofs.Turns.{dial_doing, doing_rule, no_peers, starts, took_doing}
 use Rattle.cf_run.proofs.Versions.{acts_tell_so, entry_keeps, has_so, new_greeting, greeting_so, greeting_then}
 
 -- ---- one dial
@@ -95,17 +92,6 @@ take_keeps c d {more = more} {progress = progress} {called = called} {t = t} {u 
     rw took (took_doing c more progress called t e bytes holds may) in
     keeps_after (greeting_by c) t u x (entry_keeps (greeting_by c) (Took e) t u took tt)
     (acts_keep c d x rule greeting same answers tells doing keeps)
-
--- of a client that puts a text at rest, and takes the next delivery
-pub keeps_next : {H M : Type 0} {g : Ghosts H} {j : Judges M} {c d : Client H M g j} {progress : Progress}
-    {called : List (List ℕ)} (t u : Told) (s : State) → d ≡ c
-    → (rule_by c).mode ≡ Following → (s ≡ HasNoPeers → ⊥) → ((log : Log) → Reflects d log → IsState s log)
-    → ((holds : HoldsOver d progress called t) → MayTake (rule_by d).mode holds.actual → KeepsGreeting (greeting_by d) t u)
-    → HoldsOver c progress called t → KeepsGreeting (greeting_by c) t u
-keeps_next {c = c} {d = d} t u s same follows ne state keeps holds =
-    let held = holds_same {c = c} {d = d} same holds in
-    keeps_so (greeting_by d) (greeting_by c) t u (greeting_same {c = c} {d = d} same)
-    (keeps held (may_held s same held follows ne state))
 
 -- ---- the whole run
 

@@ -1,14 +1,13 @@
-use Rattle.std.proofs.Common.{refl, ◌∙◌, ap}
+use Rattle.std.proofs.Common.{refl, ◌∙◌}
 use Rattle.std.proofs.lemmas.Result.{err_from_is_err_and}
-use Rattle.cf_wires.specs.Log.{Told}
-use Rattle.cf_client.specs.Stands.{rule_by}
+use Rattle.cf_client.specs.Stands.{rule_by, greeting_by}
 use Rattle.cf_peer.specs.declared.mode.Mode.TheVariants.{Following}
 use Rattle.cf_run.specs.declared.outcome.End.TheVariants.{NoPeers}
-use Rattle.cf_run.proofs.Courses.{counted_end, counted_on, runs_self, told_following, turns_none}
-use Rattle.cf_run.proofs.Passing.{keeps_next}
+use Rattle.cf_run.proofs.Courses.{counted_end, counted_on, counted_over, runs_self, told_following, turns_none}
+use Rattle.cf_run.proofs.Passing.{keeps_so}
 use Rattle.cf_run.proofs.Turns.{ended_stops, holds_same, may_follow, may_held, may_rest, mode_same, reflects_same, rule_same, greeting_same, ended_holds}
 use Rattle.cf_run.proofs.Puts.{all_by, have_then, putting_ended, some_by, some_then, texts_err, texts_ok, texts_short}
-use Rattle.cf_run.proofs.Rights.{holds_right, right_by}
+use Rattle.cf_run.proofs.Rights.{holds_right, right_by, stays_err, stays_on}
 use Rattle.cf_run.proofs.follow.follow_turn.Goals as goal
 
 pub returns-in-NoPeers-clause-turned : goal.returns-in-NoPeers-clause-turned
@@ -79,20 +78,18 @@ pub returns-in-NoPeers-clause-stays : goal.returns-in-NoPeers-clause-stays
 returns-in-NoPeers-clause-stays g c = λ called holds. record { right = tt; versions = λ has. has }
 
 pub returns-then-more-clause-stays : goal.returns-then-more-clause-stays
-returns-then-more-clause-stays g c = λ called holds. record {
-  right = tt;
-  versions = keeps_next (g.W.Wires.told c.args.wires.now)
-      (g.W.Wires.told c.take_next.new.wires) _ c.in_ok-put_at_rest.ensures.same c.requires.follows
-      c.in_default.not-NoPeers c.state.ensures.state (λ holds may. (c.in_ok-more.ensures.stays called holds may).versions) holds;
-}
+returns-then-more-clause-stays g c = λ called holds.
+    let same = c.in_ok-put_at_rest.ensures.same in
+    let held = holds_same {c = c.args.client.now} {d = c.put_at_rest.new.client} same holds in
+    let may = may_held _ same held c.requires.follows c.in_default.not-NoPeers c.state.ensures.state in
+    stays_on (greeting_same same) (λ has. has) (c.in_ok-more.ensures.stays called held may)
 
 pub returns-clause-stays : goal.returns-clause-stays
-returns-clause-stays g c = λ called holds. record {
-  right = tt;
-  versions = keeps_next (g.W.Wires.told c.args.wires.now)
-      (g.W.Wires.told c.take_next.new.wires) _ c.in_ok-put_at_rest.ensures.same c.requires.follows
-      c.in_default.not-NoPeers c.state.ensures.state (λ holds may. (c.in_ok-more.ensures.stays called holds may).versions) holds;
-}
+returns-clause-stays g c = λ called holds.
+    let same = c.in_ok-put_at_rest.ensures.same in
+    let held = holds_same {c = c.args.client.now} {d = c.put_at_rest.new.client} same holds in
+    let may = may_held _ same held c.requires.follows c.in_default.not-NoPeers c.state.ensures.state in
+    stays_on (greeting_same same) (λ has. has) (c.in_ok-more.ensures.stays called held may)
 
 pub returns-in_err-put_at_rest-clause-stays : goal.returns-in_err-put_at_rest-clause-stays
 returns-in_err-put_at_rest-clause-stays g c = (let p = err_from_is_err_and c.from_residual.result c.from_residual.ensures.1 in rw p.1 (λ called holds. record { right = holds_right c.args.client.now holds; versions = λ has. has }))
@@ -101,25 +98,21 @@ pub returns-in_err-more-clause-stays : goal.returns-in_err-more-clause-stays
 returns-in_err-more-clause-stays g c = (let p = err_from_is_err_and c.from_residual-in_err-more.result c.from_residual-in_err-more.ensures.1 in rw p.1 (λ called holds.
     let same = c.in_ok-put_at_rest.ensures.same in
     let held = holds_same {c = c.args.client.now} {d = c.put_at_rest.new.client} same holds in
-    record {
-      right = right_by (g.W.Wires.told c.take_next.new.wires) (rule_same same)
-          (c.in_err-more.ensures.stays called held (may_held _ same held c.requires.follows c.in_default.not-NoPeers c.state.ensures.state)).right;
-      versions = keeps_next (g.W.Wires.told c.args.wires.now)
-          (g.W.Wires.told c.take_next.new.wires) _ c.in_ok-put_at_rest.ensures.same c.requires.follows
-          c.in_default.not-NoPeers c.state.ensures.state (λ holds may. (c.in_err-more.ensures.stays called holds may).versions) holds;
-    }))
+    let may = may_held _ same held c.requires.follows c.in_default.not-NoPeers c.state.ensures.state in
+    stays_err (rule_same same) (greeting_same same) (λ has. has) (c.in_err-more.ensures.stays called held may)))
 
 pub returns-in_err-put_at_rest-2-clause-stays : goal.returns-in_err-put_at_rest-2-clause-stays
 returns-in_err-put_at_rest-2-clause-stays g c = (let p = err_from_is_err_and c.from_residual-in_err-put_at_rest-2.result c.from_residual-in_err-put_at_rest-2.ensures.1 in rw p.1 (λ called holds.
-    let rest = c.in_ok-put_at_rest.ensures in
+    let same = c.in_ok-put_at_rest.ensures.same in
+    let held = holds_same {c = c.args.client.now} {d = c.put_at_rest.new.client} same holds in
+    let may = may_held _ same held c.requires.follows c.in_default.not-NoPeers c.state.ensures.state in
     let over = c.in_ok-more.ensures.over c.if-more.false in
-    let may = may_rest _ rest.same holds c.requires.follows c.in_default.not-NoPeers c.state.ensures.state in
+    let rest = may_rest _ same holds c.requires.follows c.in_default.not-NoPeers c.state.ensures.state in
     record {
-      right = right_by (g.W.Wires.told c.take_next.new.wires) (rule_same (over.0 ∙ rest.same))
-          (holds_right c.take_next.new.client (ended_holds (over.0 ∙ rest.same) over.1 over.2 holds may));
-      versions = keeps_next (g.W.Wires.told c.args.wires.now)
-          (g.W.Wires.told c.take_next.new.wires) _ c.in_ok-put_at_rest.ensures.same c.requires.follows
-          c.in_default.not-NoPeers c.state.ensures.state (λ holds may. (c.in_ok-more.ensures.stays called holds may).versions) holds;
+      right = right_by (g.W.Wires.told c.take_next.new.wires) (rule_same (over.0 ∙ same))
+          (holds_right c.take_next.new.client (ended_holds (over.0 ∙ same) over.1 over.2 holds rest));
+      versions = keeps_so (greeting_by c.put_at_rest.new.client) (greeting_by c.args.client.now)
+          (g.W.Wires.told c.args.wires.now) (g.W.Wires.told c.take_next.new.wires) (greeting_same same) (c.in_ok-more.ensures.stays called held may).versions;
     }))
 
 pub returns-in-NoPeers-clause-counts : goal.returns-in-NoPeers-clause-counts
@@ -129,9 +122,8 @@ pub returns-then-more-clause-counts : goal.returns-then-more-clause-counts
 returns-then-more-clause-counts g c = counted_on Following _ _ (c.in_ok-more.ensures.taken c.if-more.true) (c.in_ok-more.ensures.unended c.if-more.true)
 
 pub returns-clause-counts : goal.returns-clause-counts
-returns-clause-counts g c = let over = (c.in_ok-more.ensures.over c.if-more.false).2 in
-    counted_end Following c.end_of_wires.result (g.W.Wires.told c.args.wires.now).tally (g.W.Wires.told c.take_next.new.wires).tally c.end_of_wires.ensures.untired (ap (λ (t : Told). t.tally.taken) over)
-    (told_following c.end_of_wires.result _ _ (ap (λ (t : Told). t.tally.ended) over))
+returns-clause-counts g c = counted_over Following c.end_of_wires.result _ _ c.end_of_wires.ensures.untired
+    (c.in_ok-more.ensures.over c.if-more.false).2 (told_following c.end_of_wires.result _ _ refl)
 
 pub returns-in-NoPeers-clause-texts : goal.returns-in-NoPeers-clause-texts
 returns-in-NoPeers-clause-texts g c = texts_ok c.in_ok-put_at_rest.ensures.texts.fine c.in_ok-put_at_rest.ensures.texts.same_reference

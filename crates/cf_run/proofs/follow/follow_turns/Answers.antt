@@ -9,7 +9,7 @@ use Rattle.cf_run.proofs.Courses.{took_more, took_none, turn_ends, turns_more, t
 use Rattle.cf_run.proofs.Turns.{holds_same, rule_same, stops}
 use Rattle.cf_run.proofs.Versions.{keeps_then}
 use Rattle.cf_run.proofs.Puts.{all_by, none_have, some_by, texts_err, texts_ok}
-use Rattle.cf_run.proofs.Rights.{holds_right, right_by}
+use Rattle.cf_run.proofs.Rights.{holds_right, right_by, stays_err, stays_on}
 use Rattle.cf_run.proofs.follow.follow_turns.Goals as goal
 
 pub loop-turn-init : goal.loop-turn-init
@@ -94,21 +94,13 @@ returns-clause-stays g c = λ called holds. record { right = tt; versions = c.lo
 
 pub returns-in-Some-clause-stays : goal.returns-in-Some-clause-stays
 returns-in-Some-clause-stays g c = λ called holds.
-    let stays = c.in_ok-end.ensures.stays called (c.loop-turn.invariant.holds called holds) in
-    record {
-      right = tt;
-      versions = keeps_then (greeting_by c.loop-turn.client) (greeting_by c.args.client.now) (g.W.Wires.told c.args.wires.now) (g.W.Wires.told c.loop-turn.wires) (g.W.Wires.told c.follow_turn.new.wires)
-          c.loop-turn.invariant.greeting (c.loop-turn.invariant.versions called holds) stays.versions;
-    }
+    let turn = c.loop-turn.invariant in
+    stays_on turn.greeting (turn.versions called holds) (c.in_ok-end.ensures.stays called (turn.holds called holds))
 
 pub returns-in_err-end-clause-stays : goal.returns-in_err-end-clause-stays
 returns-in_err-end-clause-stays g c = (let p = err_from_is_err_and c.from_residual.result c.from_residual.ensures.1 in rw p.1 (λ called holds.
-    let stays = c.in_err-end.ensures.stays called (c.loop-turn.invariant.holds called holds) in
-    record {
-      right = right_by (g.W.Wires.told c.follow_turn.new.wires) c.loop-turn.invariant.rule stays.right;
-      versions = keeps_then (greeting_by c.loop-turn.client) (greeting_by c.args.client.now) (g.W.Wires.told c.args.wires.now) (g.W.Wires.told c.loop-turn.wires) (g.W.Wires.told c.follow_turn.new.wires)
-          c.loop-turn.invariant.greeting (c.loop-turn.invariant.versions called holds) stays.versions;
-    }))
+    let turn = c.loop-turn.invariant in
+    stays_err turn.rule turn.greeting (turn.versions called holds) (c.in_err-end.ensures.stays called (turn.holds called holds))))
 
 pub returns-in_err-put_at_rest-clause-stays : goal.returns-in_err-put_at_rest-clause-stays
 returns-in_err-put_at_rest-clause-stays g c = (let p = err_from_is_err_and c.from_residual-in_err-put_at_rest.result c.from_residual-in_err-put_at_rest.ensures.1 in rw p.1 (λ called holds.

@@ -3,6 +3,7 @@ use Rattle.std.proofs.lemmas.Result.{err_from_is_err_and}
 use Rattle.cf_place.specs.Places.{after}
 use Rattle.cf_client.specs.Stands.{rule_by, greeting_by}
 use Rattle.cf_run.proofs.Courses.{performs_then}
+use Rattle.cf_run.proofs.Rights.{terms_err, terms_on}
 use Rattle.cf_run.proofs.over.carry_out.Goals as goal
 
 pub returns-clause-holds : goal.returns-clause-holds
@@ -35,10 +36,10 @@ returns-in_err-settle-clause-right g c = (let p = err_from_is_err_and c.from_res
     (c.in_ok-perform_acts.ensures.doing (rule_by c.args.client.now) called log answers.allowed doing)).right))
 
 pub returns-clause-terms : goal.returns-clause-terms
-returns-clause-terms g c = record { rule = c.in_ok-settle.ensures.terms.rule; greeting = c.in_ok-settle.ensures.terms.greeting }
+returns-clause-terms g c = terms_on refl refl c.in_ok-settle.ensures.terms
 
 pub returns-in_err-settle-clause-terms : goal.returns-in_err-settle-clause-terms
-returns-in_err-settle-clause-terms g c = (let p = err_from_is_err_and c.from_residual-in_err-settle.result c.from_residual-in_err-settle.ensures.1 in rw p.1 (record { rule = tt; greeting = c.in_err-settle.ensures.terms.greeting }))
+returns-in_err-settle-clause-terms g c = (let p = err_from_is_err_and c.from_residual-in_err-settle.result c.from_residual-in_err-settle.ensures.1 in rw p.1 (terms_err refl c.in_err-settle.ensures.terms))
 
 pub returns-in_err-perform_acts-clause-terms : goal.returns-in_err-perform_acts-clause-terms
 returns-in_err-perform_acts-clause-terms g c = (let p = err_from_is_err_and c.from_residual.result c.from_residual.ensures.1 in rw p.1 (record { rule = tt; greeting = refl }))

@@ -6,7 +6,7 @@ use Rattle.cf_run.proofs.Courses.{runs_then}
 use Rattle.cf_run.proofs.Dialling.{names_more_as, one_dialled, most_dialled}
 use Rattle.cf_client.specs.Stands.{greeting_by}
 use Rattle.cf_run.proofs.Versions.{keeps_then}
-use Rattle.cf_run.proofs.Rights.{right_by}
+use Rattle.cf_run.proofs.Rights.{stays_err, terms_err}
 use Rattle.cf_run.proofs.over.dial_all.Goals as goal
 
 pub returns-in_err-dial_one-clause-first : goal.returns-in_err-dial_one-clause-first
@@ -41,18 +41,15 @@ returns-clause-stays g c = λ start. record { right = tt; versions = c.loop-name
 
 pub returns-in_err-dial_one-clause-stays : goal.returns-in_err-dial_one-clause-stays
 returns-in_err-dial_one-clause-stays g c = (let p = err_from_is_err_and c.from_residual.result c.from_residual.ensures.1 in rw p.1 (λ start.
-    let stays = c.in_err-dial_one.ensures.stays (names_in (take c.loop-name.name-index c.args.names.now)) (c.loop-name.invariant.holds start) in
-    record {
-      right = right_by (g.W.Wires.told c.dial_one.new.wires) c.loop-name.invariant.rule stays.right;
-      versions = keeps_then (greeting_by c.loop-name.client) (greeting_by c.args.client.now) (g.W.Wires.told c.args.wires.now) (g.W.Wires.told c.loop-name.wires) (g.W.Wires.told c.dial_one.new.wires)
-          c.loop-name.invariant.greeting (c.loop-name.invariant.versions start) stays.versions;
-    }))
+    let dials = c.loop-name.invariant in
+    stays_err dials.rule dials.greeting (dials.versions start)
+    (c.in_err-dial_one.ensures.stays (names_in (take c.loop-name.name-index c.args.names.now)) (dials.holds start))))
 
 pub returns-clause-terms : goal.returns-clause-terms
 returns-clause-terms g c = record { rule = c.loop-name.invariant.rule; greeting = c.loop-name.invariant.greeting }
 
 pub returns-in_err-dial_one-clause-terms : goal.returns-in_err-dial_one-clause-terms
-returns-in_err-dial_one-clause-terms g c = (let p = err_from_is_err_and c.from_residual.result c.from_residual.ensures.1 in rw p.1 (record { rule = tt; greeting = c.in_err-dial_one.ensures.terms.greeting ∙ c.loop-name.invariant.greeting }))
+returns-in_err-dial_one-clause-terms g c = (let p = err_from_is_err_and c.from_residual.result c.from_residual.ensures.1 in rw p.1 (terms_err c.loop-name.invariant.greeting c.in_err-dial_one.ensures.terms))
 
 pub returns-in_err-dial_one-clause-puts : goal.returns-in_err-dial_one-clause-puts
 returns-in_err-dial_one-clause-puts g c = λ watch texts put. c.in_err-dial_one.ensures.dials.puts watch texts (c.loop-name.invariant.puts watch texts put)

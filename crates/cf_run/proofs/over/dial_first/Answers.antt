@@ -1,8 +1,9 @@
-use Rattle.std.proofs.Common.{[]}
+use Rattle.std.proofs.Common.{[], refl}
 use Rattle.std.proofs.lemmas.Result.{err_from_is_err_and}
 use Rattle.cf_run.proofs.Passing.{passes_dials}
 use Rattle.cf_run.proofs.Puts.{none_before}
 use Rattle.cf_run.proofs.Turns.{starts}
+use Rattle.cf_run.proofs.Rights.{terms_err, terms_on}
 use Rattle.cf_run.proofs.over.dial_first.Goals as goal
 
 pub returns-clause-holds : goal.returns-clause-holds
@@ -32,7 +33,7 @@ returns-in_err-dial_all-clause-right g c = (let p = err_from_is_err_and c.from_r
     (g.W.Wires.told c.args.wires.now) c.requires.reflects c.new-progress.ensures c.requires.wires.log)).right)
 
 pub returns-clause-terms : goal.returns-clause-terms
-returns-clause-terms g c = record { rule = c.in_ok-dial_all.ensures.terms.rule; greeting = c.in_ok-dial_all.ensures.terms.greeting }
+returns-clause-terms g c = terms_on refl refl c.in_ok-dial_all.ensures.terms
 
 pub returns-in_err-dial_all-clause-terms : goal.returns-in_err-dial_all-clause-terms
-returns-in_err-dial_all-clause-terms g c = (let p = err_from_is_err_and c.from_residual.result c.from_residual.ensures.1 in rw p.1 (record { rule = tt; greeting = c.in_err-dial_all.ensures.terms.greeting }))
+returns-in_err-dial_all-clause-terms g c = (let p = err_from_is_err_and c.from_residual.result c.from_residual.ensures.1 in rw p.1 (terms_err refl c.in_err-dial_all.ensures.terms))

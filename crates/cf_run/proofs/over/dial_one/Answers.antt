@@ -7,7 +7,7 @@ use Rattle.cf_run.proofs.Courses.{dials_none, quiet_runs, dialled_one, missed_on
 use Rattle.cf_run.proofs.Passing.{dial_keeps, dialled_then, missed_alone}
 use Rattle.cf_run.proofs.Versions.{entry_keeps, same_keeps}
 use Rattle.cf_run.proofs.Turns.{dial_doing, not_dialled_holds}
-use Rattle.cf_run.proofs.Rights.{holds_right, missed_right, right_at}
+use Rattle.cf_run.proofs.Rights.{holds_right, missed_right, right_at, terms_err, terms_on}
 use Rattle.cf_run.proofs.over.dial_one.Goals as goal
 
 pub returns-in_ok-greet-in-Ok-clause-holds : goal.returns-in_ok-greet-in-Ok-clause-holds
@@ -57,10 +57,10 @@ returns-in-Err-NoMemory-clause-stays g c = λ called holds.
     }
 
 pub returns-in_ok-greet-in-Ok-clause-terms : goal.returns-in_ok-greet-in-Ok-clause-terms
-returns-in_ok-greet-in-Ok-clause-terms g c = record { rule = c.in_ok-greet-in-Ok.ensures.terms.rule; greeting = c.in_ok-greet-in-Ok.ensures.terms.greeting }
+returns-in_ok-greet-in-Ok-clause-terms g c = terms_on refl refl c.in_ok-greet-in-Ok.ensures.terms
 
 pub returns-in_err-greet-in-Ok-clause-terms : goal.returns-in_err-greet-in-Ok-clause-terms
-returns-in_err-greet-in-Ok-clause-terms g c = (let p = err_from_is_err_and c.from_residual.result c.from_residual.ensures.1 in rw p.1 (record { rule = tt; greeting = c.in_err-greet-in-Ok.ensures.terms.greeting }))
+returns-in_err-greet-in-Ok-clause-terms g c = (let p = err_from_is_err_and c.from_residual.result c.from_residual.ensures.1 in rw p.1 (terms_err refl c.in_err-greet-in-Ok.ensures.terms))
 
 pub returns-in_ok-not_dialled-in-Err-Failed-clause-terms : goal.returns-in_ok-not_dialled-in-Err-Failed-clause-terms
 returns-in_ok-not_dialled-in-Err-Failed-clause-terms g c = let e = c.in_ok-not_dialled-in-Err-Failed.ensures in record { rule = e.rule; greeting = e.words }

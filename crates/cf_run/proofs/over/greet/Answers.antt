@@ -8,7 +8,7 @@ use Rattle.cf_run.proofs.Passing.{acts_keep}
 use Rattle.cf_run.proofs.Ticked.{ticked_greeted}
 use Rattle.cf_run.proofs.Turns.{doing_rule}
 use Rattle.cf_run.proofs.Versions.{greeting_tells}
-use Rattle.cf_run.proofs.Rights.{doing_right, right_by}
+use Rattle.cf_run.proofs.Rights.{doing_right, right_by, terms_err, terms_on}
 use Rattle.cf_run.proofs.over.greet.Goals as goal
 
 pub returns-clause-holds : goal.returns-clause-holds
@@ -47,16 +47,13 @@ pub returns-clause-count : goal.returns-clause-count
 returns-clause-count g c = c.in_ok-carry_out.ensures.count ∙ c.in_ok-acts.ensures.count
 
 pub returns-clause-terms : goal.returns-clause-terms
-returns-clause-terms g c = record {
-  rule = c.in_ok-carry_out.ensures.terms.rule ∙ c.in_ok-acts.ensures.rule;
-  greeting = c.in_ok-carry_out.ensures.terms.greeting ∙ c.in_ok-acts.ensures.words;
-}
+returns-clause-terms g c = terms_on c.in_ok-acts.ensures.rule c.in_ok-acts.ensures.words c.in_ok-carry_out.ensures.terms
 
 pub returns-in_err-acts-clause-terms : goal.returns-in_err-acts-clause-terms
 returns-in_err-acts-clause-terms g c = (let p = err_from_is_err_and c.from_residual.result c.from_residual.ensures.1 in rw p.1 (record { rule = tt; greeting = c.in_err-acts.ensures.words }))
 
 pub returns-in_err-carry_out-clause-terms : goal.returns-in_err-carry_out-clause-terms
-returns-in_err-carry_out-clause-terms g c = (let p = err_from_is_err_and c.from_residual-in_err-carry_out.result c.from_residual-in_err-carry_out.ensures.1 in rw p.1 (record { rule = tt; greeting = c.in_err-carry_out.ensures.terms.greeting ∙ c.in_ok-acts.ensures.words }))
+returns-in_err-carry_out-clause-terms g c = (let p = err_from_is_err_and c.from_residual-in_err-carry_out.result c.from_residual-in_err-carry_out.ensures.1 in rw p.1 (terms_err c.in_ok-acts.ensures.words c.in_err-carry_out.ensures.terms))
 
 pub returns-clause-performs : goal.returns-clause-performs
 returns-clause-performs g c = c.in_ok-carry_out.ensures.performs

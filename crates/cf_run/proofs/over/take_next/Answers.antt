@@ -10,7 +10,7 @@ use Rattle.cf_run.proofs.Versions.{entry_keeps, same_keeps}
 use Rattle.cf_run.proofs.Ticked.{ticked_taken}
 use Rattle.cf_run.proofs.Turns.{took_doing, doing_rule, took_counts, took_closed}
 use Rattle.cf_run.proofs.Courses.{told_runs, turns_then, puts_taken}
-use Rattle.cf_run.proofs.Rights.{doing_right, holds_right, right_at, right_by}
+use Rattle.cf_run.proofs.Rights.{doing_right, holds_right, right_at, right_by, terms_err, terms_on}
 use Rattle.cf_run.proofs.over.take_next.Goals as goal
 
 pub returns-clause-holds : goal.returns-clause-holds
@@ -97,10 +97,7 @@ pub returns-in-Ended-clause-terms : goal.returns-in-Ended-clause-terms
 returns-in-Ended-clause-terms g c = record { rule = refl; greeting = refl }
 
 pub returns-clause-terms : goal.returns-clause-terms
-returns-clause-terms g c = record {
-  rule = c.in_ok-carry_out.ensures.terms.rule ∙ c.in_ok-acts.ensures.rule;
-  greeting = c.in_ok-carry_out.ensures.terms.greeting ∙ c.in_ok-acts.ensures.words;
-}
+returns-clause-terms g c = terms_on c.in_ok-acts.ensures.rule c.in_ok-acts.ensures.words c.in_ok-carry_out.ensures.terms
 
 pub returns-in_err-d-clause-terms : goal.returns-in_err-d-clause-terms
 returns-in_err-d-clause-terms g c = (let p = err_from_is_err_and c.from_residual.result c.from_residual.ensures.1 in rw p.1 (record { rule = tt; greeting = refl }))
@@ -109,4 +106,4 @@ pub returns-in_err-acts-clause-terms : goal.returns-in_err-acts-clause-terms
 returns-in_err-acts-clause-terms g c = (let p = err_from_is_err_and c.from_residual-in_err-acts.result c.from_residual-in_err-acts.ensures.1 in rw p.1 (record { rule = tt; greeting = c.in_err-acts.ensures.words }))
 
 pub returns-in_err-carry_out-clause-terms : goal.returns-in_err-carry_out-clause-terms
-returns-in_err-carry_out-clause-terms g c = (let p = err_from_is_err_and c.from_residual-in_err-carry_out.result c.from_residual-in_err-carry_out.ensures.1 in rw p.1 (record { rule = tt; greeting = c.in_err-carry_out.ensures.terms.greeting ∙ c.in_ok-acts.ensures.words }))
+returns-in_err-carry_out-clause-terms g c = (let p = err_from_is_err_and c.from_residual-in_err-carry_out.result c.from_residual-in_err-carry_out.ensures.1 in rw p.1 (terms_err c.in_ok-acts.ensures.words c.in_err-carry_out.ensures.terms))

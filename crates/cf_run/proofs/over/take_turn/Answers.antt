@@ -1,11 +1,11 @@
-use Rattle.std.proofs.Common.{refl, ap}
+use Rattle.std.proofs.Common.{refl}
 use Rattle.std.proofs.lemmas.Result.{err_from_is_err_and}
-use Rattle.cf_wires.specs.Log.{Told}
 use Rattle.cf_client.specs.Stands.{rule_by}
 use Rattle.cf_peer.specs.declared.mode.Mode.TheVariants.{Once}
 use Rattle.cf_run.specs.declared.outcome.End.TheVariants.{Synced, NoPeers, Ended as EndedFirst}
 use Rattle.cf_run.proofs.Turns.{ended_stops, may_take}
-use Rattle.cf_run.proofs.Courses.{counted_end, counted_on, runs_self, turns_none}
+use Rattle.cf_run.proofs.Courses.{counted_end, counted_on, counted_over, runs_self, turns_none}
+use Rattle.cf_run.proofs.Rights.{stays_err, stays_on, terms_err, terms_on}
 use Rattle.cf_run.proofs.over.take_turn.Goals as goal
 
 pub returns-in-Synced-clause-turned : goal.returns-in-Synced-clause-turned
@@ -40,16 +40,18 @@ returns-in-NoPeers-clause-stays g c = λ called holds. record { right = tt; vers
 
 pub returns-then-more-clause-stays : goal.returns-then-more-clause-stays
 returns-then-more-clause-stays g c = λ called holds.
-    record { right = tt; versions = (c.in_ok-more.ensures.stays called holds (may_take (rule_by c.args.client.now).mode holds.actual (c.in-Working.ensures.state holds.actual holds.reflects))).versions }
+    stays_on refl (λ has. has)
+    (c.in_ok-more.ensures.stays called holds (may_take (rule_by c.args.client.now).mode holds.actual (c.in-Working.ensures.state holds.actual holds.reflects)))
 
 pub returns-clause-stays : goal.returns-clause-stays
 returns-clause-stays g c = λ called holds.
-    record { right = tt; versions = (c.in_ok-more.ensures.stays called holds (may_take (rule_by c.args.client.now).mode holds.actual (c.in-Working.ensures.state holds.actual holds.reflects))).versions }
+    stays_on refl (λ has. has)
+    (c.in_ok-more.ensures.stays called holds (may_take (rule_by c.args.client.now).mode holds.actual (c.in-Working.ensures.state holds.actual holds.reflects)))
 
 pub returns-in_err-more-clause-stays : goal.returns-in_err-more-clause-stays
 returns-in_err-more-clause-stays g c = (let p = err_from_is_err_and c.from_residual.result c.from_residual.ensures.1 in rw p.1 (λ called holds.
-    let stays = c.in_err-more.ensures.stays called holds (may_take (rule_by c.args.client.now).mode holds.actual (c.in-Working.ensures.state holds.actual holds.reflects)) in
-    record { right = stays.right; versions = stays.versions }))
+    stays_err refl refl (λ has. has)
+    (c.in_err-more.ensures.stays called holds (may_take (rule_by c.args.client.now).mode holds.actual (c.in-Working.ensures.state holds.actual holds.reflects)))))
 
 pub returns-in-Synced-clause-terms : goal.returns-in-Synced-clause-terms
 returns-in-Synced-clause-terms g c = record { rule = refl; greeting = refl }
@@ -58,13 +60,13 @@ pub returns-in-NoPeers-clause-terms : goal.returns-in-NoPeers-clause-terms
 returns-in-NoPeers-clause-terms g c = record { rule = refl; greeting = refl }
 
 pub returns-then-more-clause-terms : goal.returns-then-more-clause-terms
-returns-then-more-clause-terms g c = record { rule = c.in_ok-more.ensures.terms.rule; greeting = c.in_ok-more.ensures.terms.greeting }
+returns-then-more-clause-terms g c = terms_on refl refl c.in_ok-more.ensures.terms
 
 pub returns-clause-terms : goal.returns-clause-terms
-returns-clause-terms g c = record { rule = c.in_ok-more.ensures.terms.rule; greeting = c.in_ok-more.ensures.terms.greeting }
+returns-clause-terms g c = terms_on refl refl c.in_ok-more.ensures.terms
 
 pub returns-in_err-more-clause-terms : goal.returns-in_err-more-clause-terms
-returns-in_err-more-clause-terms g c = (let p = err_from_is_err_and c.from_residual.result c.from_residual.ensures.1 in rw p.1 (record { rule = tt; greeting = c.in_err-more.ensures.terms.greeting }))
+returns-in_err-more-clause-terms g c = (let p = err_from_is_err_and c.from_residual.result c.from_residual.ensures.1 in rw p.1 (terms_err refl c.in_err-more.ensures.terms))
 
 pub returns-in-Synced-clause-counts : goal.returns-in-Synced-clause-counts
 returns-in-Synced-clause-counts g c = counted_end Once Synced _ _ (λ is. absurd (cc is)) refl refl
@@ -76,5 +78,5 @@ pub returns-then-more-clause-counts : goal.returns-then-more-clause-counts
 returns-then-more-clause-counts g c = counted_on Once _ _ (c.in_ok-more.ensures.taken c.if-more.true) (c.in_ok-more.ensures.unended c.if-more.true)
 
 pub returns-clause-counts : goal.returns-clause-counts
-returns-clause-counts g c = let over = (c.in_ok-more.ensures.over c.if-more.false).2 in
-    counted_end Once EndedFirst _ _ (λ is. absurd (cc is)) (ap (λ (t : Told). t.tally.taken) over) (ap (λ (t : Told). t.tally.ended) over)
+returns-clause-counts g c = counted_over Once EndedFirst _ _ (λ is. absurd (cc is))
+    (c.in_ok-more.ensures.over c.if-more.false).2 refl

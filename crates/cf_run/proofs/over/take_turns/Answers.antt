@@ -7,7 +7,7 @@ use Rattle.cf_run.proofs.Courses.{took_more, took_none, turn_ends, turns_more, t
 use Rattle.cf_run.proofs.Turns.{stops}
 use Rattle.cf_client.specs.Stands.{greeting_by}
 use Rattle.cf_run.proofs.Versions.{keeps_then}
-use Rattle.cf_run.proofs.Rights.{right_by}
+use Rattle.cf_run.proofs.Rights.{stays_err, stays_on, terms_err, terms_on}
 use Rattle.cf_run.proofs.over.take_turns.Goals as goal
 
 pub returns-in-Some-clause-stopped : goal.returns-in-Some-clause-stopped
@@ -24,33 +24,22 @@ returns-clause-stays g c = λ called holds. record { right = tt; versions = c.lo
 
 pub returns-in-Some-clause-stays : goal.returns-in-Some-clause-stays
 returns-in-Some-clause-stays g c = λ called holds.
-    let stays = c.in_ok-end.ensures.stays called (c.loop-turn.invariant.holds called holds) in
-    record {
-      right = tt;
-      versions = keeps_then (greeting_by c.loop-turn.client) (greeting_by c.args.client.now) (g.W.Wires.told c.args.wires.now) (g.W.Wires.told c.loop-turn.wires) (g.W.Wires.told c.take_turn.new.wires)
-          c.loop-turn.invariant.greeting (c.loop-turn.invariant.versions called holds) stays.versions;
-    }
+    let turn = c.loop-turn.invariant in
+    stays_on turn.greeting (turn.versions called holds) (c.in_ok-end.ensures.stays called (turn.holds called holds))
 
 pub returns-in_err-end-clause-stays : goal.returns-in_err-end-clause-stays
 returns-in_err-end-clause-stays g c = (let p = err_from_is_err_and c.from_residual.result c.from_residual.ensures.1 in rw p.1 (λ called holds.
-    let stays = c.in_err-end.ensures.stays called (c.loop-turn.invariant.holds called holds) in
-    record {
-      right = right_by (g.W.Wires.told c.take_turn.new.wires) c.loop-turn.invariant.rule stays.right;
-      versions = keeps_then (greeting_by c.loop-turn.client) (greeting_by c.args.client.now) (g.W.Wires.told c.args.wires.now) (g.W.Wires.told c.loop-turn.wires) (g.W.Wires.told c.take_turn.new.wires)
-          c.loop-turn.invariant.greeting (c.loop-turn.invariant.versions called holds) stays.versions;
-    }))
+    let turn = c.loop-turn.invariant in
+    stays_err turn.rule turn.greeting (turn.versions called holds) (c.in_err-end.ensures.stays called (turn.holds called holds))))
 
 pub returns-clause-terms : goal.returns-clause-terms
 returns-clause-terms g c = record { rule = c.loop-turn.invariant.rule; greeting = c.loop-turn.invariant.greeting }
 
 pub returns-in-Some-clause-terms : goal.returns-in-Some-clause-terms
-returns-in-Some-clause-terms g c = record {
-  rule = c.in_ok-end.ensures.terms.rule ∙ c.loop-turn.invariant.rule;
-  greeting = c.in_ok-end.ensures.terms.greeting ∙ c.loop-turn.invariant.greeting;
-}
+returns-in-Some-clause-terms g c = terms_on c.loop-turn.invariant.rule c.loop-turn.invariant.greeting c.in_ok-end.ensures.terms
 
 pub returns-in_err-end-clause-terms : goal.returns-in_err-end-clause-terms
-returns-in_err-end-clause-terms g c = (let p = err_from_is_err_and c.from_residual.result c.from_residual.ensures.1 in rw p.1 (record { rule = tt; greeting = c.in_err-end.ensures.terms.greeting ∙ c.loop-turn.invariant.greeting }))
+returns-in_err-end-clause-terms g c = (let p = err_from_is_err_and c.from_residual.result c.from_residual.ensures.1 in rw p.1 (terms_err c.loop-turn.invariant.greeting c.in_err-end.ensures.terms))
 
 pub returns-in-Some-clause-ends : goal.returns-in-Some-clause-ends
 returns-in-Some-clause-ends g c = turn_ends Once c.in-Some.end c.args.turns _ (g.W.Wires.told c.loop-turn.wires).tally
