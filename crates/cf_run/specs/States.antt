@@ -228,7 +228,8 @@ abbrev pub Turned : {H M : Type 0} → {g : Ghosts H} {j : Judges M} → Option 
 Turned None c progress called t = HoldsOver c progress called t
 Turned (Some end) c progress called t = Stopped end c progress called t
 
--- whether a turn that ends so tells the end: once where the run ends for it, and else not at all; of a client that follows the end is told once, unless no peer is left
+-- how often a turn that ends so has told the end of the wires: for a client that ends, once where it is why the run ends, and else not at all; for one that
+-- follows once, but where no peer is left, of which nothing is said
 abbrev pub IsEndTold : Mode → End → Tally → Tally → Type 0
 IsEndTold Once Synced before after = after.ended ≡ before.ended
 IsEndTold Once NoPeers before after = after.ended ≡ before.ended
