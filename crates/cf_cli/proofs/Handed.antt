@@ -9,7 +9,7 @@ use Rattle.cf_place.specs.Standing.{Greeting}
 use Rattle.cf_run.specs.Run.{HasDialled, HasFailed}
 use Rattle.cf_run.specs.Versions.{HasGreeting}
 use Rattle.cf_run.specs.Whole.{AreNewWires}
-use Rattle.cf_run.proofs.Versions.{new_words}
+use Rattle.cf_run.proofs.Versions.{new_greeting}
 use Rattle.cf_wires.specs.Log.{Log, Told}
 use Rattle.cf_wires.specs.declared.memory.MemoryWires.{MemoryWires}
 use Rattle.cf_played.specs.declared.played.Played.{Played}
@@ -22,7 +22,7 @@ use Rattle.cf_cli.specs.Handed.{IsNewTape, RunsFiles, RunsWires, UsesFiles, Uses
 use Rattle.cf_cli.specs.Recording.{Records, is_recorded}
 use Rattle.cf_cli.specs.Statuses.{may_dial}
 use Rattle.cf_cli.proofs.Asking.{unasked, unwritten}
-use Rattle.cf_cli.proofs.Plays.{new_dialled, new_unfailed, unplayed_words, versions_so}
+use Rattle.cf_cli.proofs.Plays.{new_dialled, new_unfailed, unplayed_greeting, versions_so}
 use Rattle.cf_cli.proofs.Records.{early_records, judged_once_begun, records_from}
 
 -- what isn't off is on
@@ -50,7 +50,7 @@ files_stay {F} {files} {faults} {reads} {opens} {parts} {writes} {command} {stat
 pub wires_stay : {W : Type 0} {told : W → Told} {keeps : W → Bool} {faults : W → ℕ} {moment : ℤ} {nonce : ℕ} {command : Option Command} {status : Status} {w : W}
     → AreNewWires (told w) → UsesWires told keeps faults moment nonce command status w w
 wires_stay {W} {told} {keeps} {faults} {moment} {nonce} {command} {status} {w} new = record {
-  versions = new_words (record { moment = moment; number = nonce }) (told w) new.log;
+  versions = new_greeting (record { moment = moment; number = nonce }) (told w) new.log;
   failures = new_unfailed (told w) (faults w) (faults w) new.log;
   undialled = λ off. refl;
   unkept = λ off. refl;
@@ -59,7 +59,7 @@ wires_stay {W} {told} {keeps} {faults} {moment} {nonce} {command} {status} {w} n
 -- a new tape, which nothing passes
 pub tape_stays : {moment : ℤ} {nonce : ℕ} {command : Option Command} {status : Status} {tape : MemoryWires} → IsNewTape tape → UsesTape moment nonce command status tape tape
 tape_stays {moment} {nonce} {command} {status} {tape} new = record {
-  versions = unplayed_words (record { moment = moment; number = nonce }) _ new.log;
+  versions = unplayed_greeting (record { moment = moment; number = nonce }) _ new.log;
   unplayed = λ off. refl;
 }
 
@@ -95,11 +95,11 @@ run_files {F} {files} {faults} {reads} {opens} {parts} {writes} {watch} {file} {
 }
 
 -- new wires, which no run passes
-pub unrun_wires : {W : Type 0} {told : W → Told} {keeps : W → Bool} {faults : W → ℕ} {words : Greeting} {names : List (List ℕ)} {recorded : Bool} {status : Status} {w : W}
-    → AreNewWires (told w) → RunsWires told keeps faults words names recorded status w w
-unrun_wires {W} {told} {keeps} {faults} {words} {names} {recorded} {status} {w} new = record {
+pub unrun_wires : {W : Type 0} {told : W → Told} {keeps : W → Bool} {faults : W → ℕ} {greeting : Greeting} {names : List (List ℕ)} {recorded : Bool} {status : Status} {w : W}
+    → AreNewWires (told w) → RunsWires told keeps faults greeting names recorded status w w
+unrun_wires {W} {told} {keeps} {faults} {greeting} {names} {recorded} {status} {w} new = record {
   dialled = new_dialled names (told w) new.log;
-  versions = new_words words (told w) new.log;
+  versions = new_greeting greeting (told w) new.log;
   failures = new_unfailed (told w) (faults w) (faults w) new.log;
   unkept = λ off. refl;
   undialled = λ is. refl;

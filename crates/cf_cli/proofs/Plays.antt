@@ -256,19 +256,19 @@ pub early_tallied : (status : Status) (turns names : ℕ) (t : Told) → IsOfFil
 early_tallied status turns names t is fresh = tallied_early status turns names t t (no_run status is) (of_file status is).answers (new_within turns names t fresh) (inl refl)
 
 -- a run over them took and dialled no more than it may
-left_within : {W : Type 0} {told : W → Told} {faults : W → ℕ} {script : W → Option Made} {keeps : W → Bool} {words : Greeting} {names : List (List ℕ)} {turns : ℕ} {before after : W}
-    → LeavesWires told faults script keeps words names turns before after → IsWithin turns (length names) (told after).tally
+left_within : {W : Type 0} {told : W → Told} {faults : W → ℕ} {script : W → Option Made} {keeps : W → Bool} {greeting : Greeting} {names : List (List ℕ)} {turns : ℕ} {before after : W}
+    → LeavesWires told faults script keeps greeting names turns before after → IsWithin turns (length names) (told after).tally
 left_within wires = record { taken = wires.most; dialled = wires.dialled.most; ended = wires.once }
 
 -- once they were used memory was wanting, or the record could not be written
-pub spent_tallied : {W : Type 0} {told : W → Told} {faults : W → ℕ} {script : W → Option Made} {keeps : W → Bool} {words : Greeting} {names : List (List ℕ)} {turns : ℕ} {before after : W}
-    → (status : Status) (was : Told) → has_run status ≡ false → IsOfRun status → LeavesWires told faults script keeps words names turns before after
+pub spent_tallied : {W : Type 0} {told : W → Told} {faults : W → ℕ} {script : W → Option Made} {keeps : W → Bool} {greeting : Greeting} {names : List (List ℕ)} {turns : ℕ} {before after : W}
+    → (status : Status) (was : Told) → has_run status ≡ false → IsOfRun status → LeavesWires told faults script keeps greeting names turns before after
     → Tallied status turns (length names) was (told after)
 spent_tallied status was off answers wires = tallied_early status _ _ was _ off answers (left_within wires) (inr wires.finished)
 
 -- the sink has failed, once all were dialled
-pub unwritten_tallied : {W : Type 0} {told : W → Told} {faults : W → ℕ} {script : W → Option Made} {keeps : W → Bool} {words : Greeting} {names : List (List ℕ)} {turns : ℕ} {before after : W}
-    → (was : Told) → LeavesWires told faults script keeps words names turns before after → (told after).tally.dials ≡ length names
+pub unwritten_tallied : {W : Type 0} {told : W → Told} {faults : W → ℕ} {script : W → Option Made} {keeps : W → Bool} {greeting : Greeting} {names : List (List ℕ)} {turns : ℕ} {before after : W}
+    → (was : Told) → LeavesWires told faults script keeps greeting names turns before after → (told after).tally.dials ≡ length names
     → Tallied OutFault turns (length names) was (told after)
 unwritten_tallied was wires all = record {
   answers = tt;
@@ -309,9 +309,9 @@ pub all_dialled : (names : List (String Global)) {end : End} {turns : ℕ} {tall
 all_dialled names within = within.dialled ∙ sym (length-map names string_bytes)
 
 -- the run was made, and ended so
-pub run_tallied : {W : Type 0} {told : W → Told} {faults : W → ℕ} {script : W → Option Made} {keeps : W → Bool} {words : Greeting} {turns : ℕ} {before after : W}
+pub run_tallied : {W : Type 0} {told : W → Told} {faults : W → ℕ} {script : W → Option Made} {keeps : W → Bool} {greeting : Greeting} {turns : ℕ} {before after : W}
     → (names : List (String Global)) (end : End) (ends : List PeerEnd) (status : Status) (was : Told) → AnswersTo end ends status → IsOfRun status
-    → LeavesWires told faults script keeps words (names_in names) turns before after → EndsWithin end (length names) turns (told after).tally
+    → LeavesWires told faults script keeps greeting (names_in names) turns before after → EndsWithin end (length names) turns (told after).tally
     → Tallied status turns (length (names_in names)) was (told after)
 run_tallied names end ends status was is answers wires within = record {
   answers = answers;
@@ -391,8 +391,8 @@ judged_watch None c command watch watch_name status by same is judged = tt
 judged_watch (Some m) c command watch watch_name status by same is judged = rw (is, by m) (rw same at judged)
 
 -- no version was sent over an empty log
-pub unplayed_words : (words : Greeting) (log : Log) → log ≡ [] → IsOfGreeting words log
-unplayed_words words log none = subst (IsOfGreeting words) (sym none) tt
+pub unplayed_greeting : (greeting : Greeting) (log : Log) → log ≡ [] → IsOfGreeting greeting log
+unplayed_greeting greeting log none = subst (IsOfGreeting greeting) (sym none) tt
 
 -- the same moment
 pub versions_so : (z y : ℤ) (n : ℕ) (t : Told) → z ≡ y → HasGreeting (record { moment = z; number = n }) t → HasGreeting (record { moment = y; number = n }) t

@@ -603,8 +603,8 @@ early_tallied_on status turns names t is fresh = record {
 }
 
 -- once they were used memory was wanting, or the record could not be written
-pub spent_tallied_on : {W : Type 0} {told : W → Told} {faults : W → ℕ} {script : W → Option Made} {keeps : W → Bool} {words : Greeting} {names : List (List ℕ)} {turns : ℕ} {before after : W}
-    → (status : Status) (was : Told) → has_run status ≡ false → IsOfRun status → LeavesWires told faults script keeps words names turns before after
+pub spent_tallied_on : {W : Type 0} {told : W → Told} {faults : W → ℕ} {script : W → Option Made} {keeps : W → Bool} {greeting : Greeting} {names : List (List ℕ)} {turns : ℕ} {before after : W}
+    → (status : Status) (was : Told) → has_run status ≡ false → IsOfRun status → LeavesWires told faults script keeps greeting names turns before after
     → TalliedOn status turns (length names) was (told after)
 spent_tallied_on status was off answers wires = record {
   tallied = spent_tallied status was off answers wires;
@@ -612,8 +612,8 @@ spent_tallied_on status was off answers wires = record {
 }
 
 -- a text could not be put
-pub unwritten_tallied_on : {W : Type 0} {told : W → Told} {faults : W → ℕ} {script : W → Option Made} {keeps : W → Bool} {words : Greeting} {names : List (List ℕ)} {turns : ℕ} {before after : W}
-    → (was : Told) → LeavesWires told faults script keeps words names turns before after → (told after).tally.dials ≡ length names
+pub unwritten_tallied_on : {W : Type 0} {told : W → Told} {faults : W → ℕ} {script : W → Option Made} {keeps : W → Bool} {greeting : Greeting} {names : List (List ℕ)} {turns : ℕ} {before after : W}
+    → (was : Told) → LeavesWires told faults script keeps greeting names turns before after → (told after).tally.dials ≡ length names
     → TalliedOn OutFault turns (length names) was (told after)
 unwritten_tallied_on was wires all = record { tallied = unwritten_tallied was wires all; done = λ same. cc }
 
@@ -635,9 +635,9 @@ tallied_from status turns names was first now finished so = record {
 }
 
 -- the run was made, and ended so
-pub run_tallied_on : {W : Type 0} {told : W → Told} {faults : W → ℕ} {script : W → Option Made} {keeps : W → Bool} {words : Greeting} {turns : ℕ} {before after : W}
+pub run_tallied_on : {W : Type 0} {told : W → Told} {faults : W → ℕ} {script : W → Option Made} {keeps : W → Bool} {greeting : Greeting} {turns : ℕ} {before after : W}
     → (names : List (String Global)) (end : End) (ends : List PeerEnd) (status : Status) (was : Told) → AnswersTo end ends status → IsOfRun status
-    → LeavesWires told faults script keeps words (names_in names) turns before after → EndsWithin end (length names) turns (told after).tally
+    → LeavesWires told faults script keeps greeting (names_in names) turns before after → EndsWithin end (length names) turns (told after).tally
     → (end ≡ IsSynced → IsOver turns (told after).tally) → TalliedOn status turns (length (names_in names)) was (told after)
 run_tallied_on names end ends status was is answers wires within over = record {
   tallied = run_tallied names end ends status was is answers wires within;

@@ -49,12 +49,12 @@ pub record RunsFiles {F : Type 0} (files : F → Option Named) (faults : F → �
   pub fault : status ≡ FileFault → HasRisen (faults before) (faults after)
   pub fine : status ≢ FileFault → faults after ≡ faults before
 
--- The wires: the names were dialled in order, each version that was sent tells these words, where a call has failed their count of faults has risen, they keep
+-- The wires: the names were dialled in order, each version that was sent tells this greeting, where a call has failed their count of faults has risen, they keep
 -- their log no more than before unless it is to be recorded, and what they tell stays where no run was begun.
-pub record RunsWires {W : Type 0} (told : W → Told) (keeps : W → Bool) (faults : W → ℕ) (words : Greeting) (names : List (List ℕ)) (recorded : Bool)
+pub record RunsWires {W : Type 0} (told : W → Told) (keeps : W → Bool) (faults : W → ℕ) (greeting : Greeting) (names : List (List ℕ)) (recorded : Bool)
     (status : Status) (before after : W) : Type 0 where
   pub dialled : HasDialled names (told after)
-  pub versions : HasGreeting words (told after)
+  pub versions : HasGreeting greeting (told after)
   pub failures : IfSome (told after).log (λ log. HasFailed log → HasRisen (faults before) (faults after))
   pub unkept : recorded ≡ false → keeps after ≡ keeps before
   pub undialled : was_unbegun status recorded ≡ true → told after ≡ told before

@@ -1,11 +1,14 @@
--- What holds from one moment to a later one, put together.
+-- What holds from one state of a run to a later one, put together.
 use Rattle.std.proofs.Common.{◌≡◌, ◌⊎◌, inl, inr, ℕ, ◌+◌, ◌<◌, ◌≤◌, Bool, true, false, List, [], ◌∷◌, ◌++◌, map, Option, Some, None, refl, sym, ◌∙◌, ap, subst, arith}
 use Rattle.std.specs.Prelude.{IfSome, IsSome}
 use Rattle.std.specs.List.{list_any}
 use Rattle.std.proofs.lemmas.Bool.{false≢true}
 use Rattle.std.proofs.lemmas.List.{map-append}
+use Rattle.std.proofs.lemmas.Option.{none-some}
 use Rattle.cf_bytes.specs.Outside.{HasRisen}
 use Rattle.cf_bytes.specs.declared.peer.PeerNo.{PeerNo}
+use Rattle.cf_peer.specs.declared.mode.Mode.{Mode}
+use Rattle.cf_peer.specs.declared.mode.Mode.TheVariants.{Once, Following}
 use Rattle.cf_wires.specs.declared.event.Delivery.{Delivery}
 use Rattle.cf_wires.specs.declared.event.Delivery.TheVariants.{Got, Gone, Tick, Ended}
 use Rattle.cf_wires.specs.declared.event.Dial.{Dial}
@@ -15,9 +18,9 @@ use Rattle.cf_run.specs.declared.progress.Progress.{Progress}
 use Rattle.cf_wires.specs.Log.{Log, Told, Tally, Tells, tell, longer, dials}
 use Rattle.cf_wires.specs.Wires.{Made}
 use Rattle.cf_run.specs.Run.{Course, NoFailure, HasFailed, is_failure, HasNames, names_of}
-use Rattle.cf_run.specs.Moments.{SameCounts, trouble, RunState, run_state, Runs, Performs, IsOneMore, IsNoMore, Dials, Turns, IsInStep, EndsTurns, TakesTurns, TookTurns}
+use Rattle.cf_run.specs.States.{SameCounts, trouble, RunState, run_state, Runs, Performs, IsOneMore, IsNoMore, Dials, Turns, IsInStep, EndsTurns, TakesTurns, TookTurns, CountsTurn, IsEndTold}
 use Rattle.cf_run.specs.declared.outcome.End.{End}
-use Rattle.cf_run.specs.declared.outcome.End.TheVariants.{Tired, Ended as EndedFirst}
+use Rattle.cf_run.specs.declared.outcome.End.TheVariants.{Synced, NoPeers, Tired, Ended as EndedFirst}
 use Rattle.cf_run.specs.Texts.{PutBefore, PutBy}
 use Rattle.cf_sync.specs.Putting.{WerePut, ArePut}
 
@@ -83,7 +86,7 @@ blamed_in (Some log) f g (inr risen) = λ failed. risen
 pub failures_blamed : (t u : Told) (f g : ℕ) (s r : Option Made) → Tells [] t → Course t u f g s r → IfSome u.log (λ log. HasFailed log → HasRisen f g)
 failures_blamed t u f g s r start course = blamed_in u.log f g (course.blamed (clean_start t.log start.content))
 
--- ---- from one moment to a later one
+-- ---- from one state to a later one
 
 pub runs_self : (a : RunState) → IsInStep a.told a.progress → Runs a a
 runs_self a step = record {
@@ -309,11 +312,11 @@ took_none a fresh unended step =
     record { taken = fresh; unended = unended; same = no_more_self a.told; runs = runs_self a step }
 
 -- one more was
-pub took_more : {a b c : RunState} (turns : ℕ) → TookTurns turns a b → Turns b c
-    → c.told.tally.taken ≡ b.told.tally.taken + 1 → c.told.tally.ended ≡ b.told.tally.ended → TookTurns (turns + 1) a c
-took_more {a = a} {b = b} {c = c} turns took turn taken unended = record {
-  taken = taken ∙ ap (λ (n : ℕ). n + 1) took.taken;
-  unended = unended ∙ took.unended;
+pub took_more : {a b c : RunState} {mode : Mode} {o : Option End} (turns : ℕ) → TookTurns turns a b → Turns b c → o ≡ None
+    → CountsTurn mode o b.told.tally c.told.tally → TookTurns (turns + 1) a c
+took_more {a = a} {b = b} {c = c} turns took turn is counts = record {
+  taken = counts.taken is ∙ ap (λ (n : ℕ). n + 1) took.taken;
+  unended = counts.unended is ∙ took.unended;
   same = no_more_then a.told b.told c.told took.same turn.same;
   runs = runs_then {a = a} {b = b} {c = c} took.runs turn.runs;
 }
@@ -336,15 +339,53 @@ turns_more {a = a} {b = b} {c = c} turns i took lt turn = record {
   runs = runs_then {a = a} {b = b} {c = c} took.runs turn.runs;
 }
 
+-- a turn after which the run goes on
+pub counted_on : (mode : Mode) (before after : Tally) → after.taken ≡ before.taken + 1 → after.ended ≡ before.ended → CountsTurn mode None before after
+counted_on mode before after taken unended = record {
+  taken = λ is. taken;
+  unended = λ is. unended;
+  untaken = λ e is. absurd (none-some e is);
+  untired = λ is. absurd (none-some Tired is);
+  ended = λ e is. absurd (none-some e is);
+}
+
+-- one with which it ends
+pub counted_end : (mode : Mode) (end : End) (before after : Tally) → (end ≡ Tired → ⊥) → after.taken ≡ before.taken
+    → IsEndTold mode end before after → CountsTurn mode (Some end) before after
+counted_end mode end before after untired taken told = record {
+  taken = λ is. absurd (none-some end (sym is));
+  unended = λ is. absurd (none-some end (sym is));
+  untaken = λ e is. taken;
+  untired = λ is. untired (cc is);
+  ended = λ e is. subst (λ (x : End). IsEndTold mode x before after) (cc is) told;
+}
+
+-- and the wires had no more to give
+pub counted_over : (mode : Mode) (end : End) (t u : Told) → (end ≡ Tired → ⊥) → u ≡ tell (Took Ended) t
+    → IsEndTold mode end t.tally (tell (Took Ended) t).tally → CountsTurn mode (Some end) t.tally u.tally
+counted_over mode end t u untired is told =
+    subst (λ (x : Told). CountsTurn mode (Some end) t.tally x.tally) (sym is) (counted_end mode end t.tally (tell (Took Ended) t).tally untired refl told)
+
+pub told_following : (end : End) (before after : Tally) → after.ended ≡ before.ended + 1 → IsEndTold Following end before after
+told_following Synced before after told = told
+told_following NoPeers before after told = tt
+told_following Tired before after told = told
+told_following EndedFirst before after told = told
+
+told_first : (mode : Mode) (before after : Tally) → IsEndTold mode EndedFirst before after → after.ended ≡ before.ended + 1
+told_first Once before after told = told
+told_first Following before after told = told
+
 -- with which the run ends
-pub turn_ends : (end : End) (turns i : ℕ) (before after : Tally) → (end ≡ Tired → ⊥)
-    → (end ≡ EndedFirst → after.ended ≡ before.ended + 1) → after.taken ≡ before.taken → before.taken ≡ i → i < turns
-    → before.ended ≡ 0
+pub turn_ends : {o : Option End} (mode : Mode) (end : End) (turns i : ℕ) (before after : Tally) → o ≡ Some end
+    → CountsTurn mode o before after → before.taken ≡ i → i < turns → before.ended ≡ 0
     → EndsTurns end turns after
-turn_ends end turns i before after untired ended untaken taken lt unended = record {
-  tired = λ is. absurd (untired is);
-  ended = λ is. omega (arith, ended is, unended);
-  early = λ is. omega (arith, untaken, taken, lt);
+turn_ends mode end turns i before after is counts taken lt unended = record {
+  tired = λ tired. absurd (counts.untired (is ∙ ap Some tired));
+  ended = λ first.
+      let told = told_first mode before after (subst (λ (x : End). IsEndTold mode x before after) first (counts.ended end is)) in
+      omega (arith, told, unended);
+  early = λ first. omega (arith, counts.untaken end is, taken, lt);
 }
 
 -- all turns are taken

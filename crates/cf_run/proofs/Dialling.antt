@@ -6,7 +6,7 @@ use Rattle.std.proofs.lemmas.List.{take-map, length-map}
 use Rattle.cf_wires.specs.Log.{Log, Told, Tally, Tells}
 use Rattle.cf_run.specs.Names.{names_in}
 use Rattle.cf_run.specs.Run.{HasNames, HasDialled, names_of}
-use Rattle.cf_run.specs.Moments.{IsOneMore, IsNoMore, Dials, RunState}
+use Rattle.cf_run.specs.States.{IsOneMore, IsNoMore, Dials, RunState}
 use Rattle.cf_run.proofs.Turns.{names_more}
 
 -- over new wires none was dialled

@@ -12,11 +12,11 @@ use Rattle.cf_wires.specs.declared.event.Mark.{Mark}
 use Rattle.cf_wires.specs.declared.event.Mark.TheVariants as mark
 use Rattle.cf_peer.specs.declared.peer.Cause.{Cause}
 use Rattle.cf_wires.specs.Log.{Log}
-use Rattle.cf_peer.specs.Trail.{Part, Asked, Lost, spelled, asks, with_item, part_of, trail, went_on, is_connected, has_failed, is_failing}
+use Rattle.cf_peer.specs.Trail.{Part, Asked, Lost, spelled, asks, with_item, part_of, went_on, is_connected, has_failed, is_failing}
 use Rattle.cf_peer.specs.Asking.{counted, fetched_blocks, given_filters}
 use Rattle.cf_sync.specs.Fetching.{counted_part}
 use Rattle.cf_sync.specs.Planned.{is_untold, before_failure, Alike}
-use Rattle.cf_run.specs.Moments.{closes}
+use Rattle.cf_run.specs.States.{closes}
 
 -- what an entry changes of a peer's part
 pub asked_connected : (b : Bool) (o : Option Msg) (part : Part) → is_connected (if b then record part { trail = asks o part.trail } else part).trail ≡ is_connected part.trail

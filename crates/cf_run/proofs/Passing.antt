@@ -16,20 +16,17 @@ use Rattle.cf_client.specs.declared.client.Client.{Client}
 use Rattle.cf_run.specs.declared.outcome.End.{End}
 use Rattle.cf_run.specs.declared.progress.Progress.{Progress}
 use Rattle.cf_run.specs.Passing.{Passes}
-use Rattle.cf_place.specs.declared.state.State.{State}
-use Rattle.cf_place.specs.declared.state.State.TheVariants.{NoPeers as HasNoPeers}
-use Rattle.cf_place.specs.Standing.{IsState, Greeting}
+use Rattle.cf_place.specs.Standing.{Greeting}
 use Rattle.cf_client.specs.Stands.{Answers, Reflects, rule_by, greeting_by}
-use Rattle.cf_peer.specs.declared.mode.Mode.TheVariants.{Following}
 use Rattle.cf_sync.specs.Fetching.{MayTake}
 use Rattle.cf_run.specs.Run.{AreBytesOf, Course, HasDialled, HasNames, NoFailure}
-use Rattle.cf_run.specs.Moments.{Doing, HoldsOver, IsUnused, RunState, Runs, Performs, Dials, IsInStep, Stopped, EndsTurns, TakesTurns, run_at}
+use Rattle.cf_run.specs.States.{Doing, HoldsOver, IsUnused, RunState, Runs, Performs, Dials, IsInStep, Stopped, EndsTurns, TakesTurns, run_at}
 use Rattle.cf_run.specs.Versions.{HasGreeting, KeepsGreeting}
 use Rattle.cf_run.specs.Whole.{AreNewWires, EndsWithin, LeavesWires}
 use Rattle.cf_run.proofs.Courses.{course_on, told_runs, failed_runs, failures_blamed, dialled_one, missed_one, dials_then, dials_alone}
 use Rattle.cf_run.proofs.Dialling.{none_dialled, none_named, dialled_on}
-use Rattle.cf_run.proofs.Turns.{dial_doing, doing_rule, holds_same, may_held, no_peers, starts, took_doing, words_same}
-use Rattle.cf_run.proofs.Versions.{acts_tell_so, entry_keeps, has_so, new_words, words_so, words_then}
+use Rattle.cf_run.proofs.Turns.{dial_doing, doing_rule, no_peers, starts, took_doing}
+use Rattle.cf_run.proofs.Versions.{acts_tell_so, entry_keeps, has_so, new_greeting, greeting_so, greeting_then}
 
 -- ---- one dial
 
@@ -47,14 +44,14 @@ missed_alone p name a b risen told later script keeps same step =
     dials_alone name a b (failed_runs (NotDialled p name) a b risen told later script keeps refl same step) (missed_one p name a.told b.told told)
     (ap (λ (t : Told). t.tally.taken) told) (ap (λ (t : Told). t.tally.ended) told)
 
-pub keeps_after : (words : Greeting) (t u x : Told) → KeepsGreeting words t u → KeepsGreeting words u x → KeepsGreeting words t x
-keeps_after words t u x one two = λ has. two (one has)
+pub keeps_after : (greeting : Greeting) (t u x : Told) → KeepsGreeting greeting t u → KeepsGreeting greeting u x → KeepsGreeting greeting t x
+keeps_after greeting t u x one two = λ has. two (one has)
 
--- the same words, of another client
+-- the same greeting, of another client
 pub keeps_so : (v w : Greeting) (t u : Told) → v ≡ w → KeepsGreeting v t u → KeepsGreeting w t u
-keeps_so v w t u words keeps = subst (λ (x : Greeting). KeepsGreeting x t u) words keeps
+keeps_so v w t u greeting keeps = subst (λ (x : Greeting). KeepsGreeting x t u) greeting keeps
 
--- of acts, each of which tells the client's words
+-- of acts, each of which tells the client's greeting
 pub acts_keep : {H M : Type 0} {g : Ghosts H} {j : Judges M} (c d : Client H M g j) {acts more : List Act}
     {progress : Progress} {called : List (List ℕ)} {log : Log} {u : Told} (x : Told) → rule_by d ≡ rule_by c
     → greeting_by d ≡ greeting_by c → more ≡ acts → Answers d acts log → All (ActTells (greeting_by c)) acts
@@ -62,10 +59,10 @@ pub acts_keep : {H M : Type 0} {g : Ghosts H} {j : Judges M} (c d : Client H M g
     → ((called : List (List ℕ)) (log : Log) → Answers d more log → Doing (rule_by d) more progress called log u
     → All (ActTells (greeting_by d)) more → KeepsGreeting (greeting_by d) u x)
     → KeepsGreeting (greeting_by c) u x
-acts_keep c d {acts = acts} {more = more} {called = called} {log = log} {u = u} x rule words same answers tells
-    doing keeps = keeps_so (greeting_by d) (greeting_by c) u x words
+acts_keep c d {acts = acts} {more = more} {called = called} {log = log} {u = u} x rule greeting same answers tells
+    doing keeps = keeps_so (greeting_by d) (greeting_by c) u x greeting
     (keeps called log (subst (λ (a : List Act). Answers d a log) (sym same) answers) (doing_rule rule doing)
-    (acts_tell_so (greeting_by c) (greeting_by d) acts more (sym words) same tells))
+    (acts_tell_so (greeting_by c) (greeting_by d) acts more (sym greeting) same tells))
 
 -- of a peer that was dialled
 pub dial_keeps : {H M : Type 0} {g : Ghosts H} {j : Judges M} (c : Client H M g j) {progress : Progress}
@@ -90,31 +87,20 @@ pub take_keeps : {H M : Type 0} {g : Ghosts H} {j : Judges M} (c d : Client H M 
     → All (ActTells (greeting_by d)) more → KeepsGreeting (greeting_by d) u x)
     → KeepsGreeting (greeting_by c) t x
 take_keeps c d {more = more} {progress = progress} {called = called} {t = t} {u = u} x e holds may bytes took rule
-    words same answers tells keeps =
+    greeting same answers tells keeps =
     let doing : Doing (rule_by c) more progress called (Took e ∷ holds.actual) u =
     rw took (took_doing c more progress called t e bytes holds may) in
     keeps_after (greeting_by c) t u x (entry_keeps (greeting_by c) (Took e) t u took tt)
-    (acts_keep c d x rule words same answers tells doing keeps)
-
--- of a client that puts a text at rest, and takes the next delivery
-pub keeps_next : {H M : Type 0} {g : Ghosts H} {j : Judges M} {c d : Client H M g j} {progress : Progress}
-    {called : List (List ℕ)} (t u : Told) (s : State) → d ≡ c
-    → (rule_by c).mode ≡ Following → (s ≡ HasNoPeers → ⊥) → ((log : Log) → Reflects d log → IsState s log)
-    → ((holds : HoldsOver d progress called t) → MayTake (rule_by d).mode holds.actual → KeepsGreeting (greeting_by d) t u)
-    → HoldsOver c progress called t → KeepsGreeting (greeting_by c) t u
-keeps_next {c = c} {d = d} t u s same follows ne state keeps holds =
-    let held = holds_same {c = c} {d = d} same holds in
-    keeps_so (greeting_by d) (greeting_by c) t u (words_same {c = c} {d = d} same)
-    (keeps held (may_held s same held follows ne state))
+    (acts_keep c d x rule greeting same answers tells doing keeps)
 
 -- ---- the whole run
 
 -- nothing has passed
 pub passes_none : {W : Type 0} (told : W → Told) (faults : W → ℕ) (script : W → Option Made) (keeps : W → Bool)
-    (words : Greeting) (names : List (List ℕ)) (turns : ℕ) (now : W) → Tells [] (told now)
-    → Passes told faults script keeps words names turns now now
-passes_none told faults script keeps words names turns now tells = record {
-  versions = new_words words (told now) tells;
+    (greeting : Greeting) (names : List (List ℕ)) (turns : ℕ) (now : W) → Tells [] (told now)
+    → Passes told faults script keeps greeting names turns now now
+passes_none told faults script keeps greeting names turns now tells = record {
+  versions = new_greeting greeting (told now) tells;
   first = none_dialled names (told now) tells;
   most = omega (arith, ap (λ (x : Tally). x.taken) tells.counts);
   once = omega (arith, ap (λ (x : Tally). x.ended) tells.counts);
@@ -133,7 +119,7 @@ pub passes_dials : {W H M : Type 0} {g : Ghosts H} {j : Judges M} {told : W → 
     → Runs (run_at told faults script keeps before p) (run_at told faults script keeps after q)
     → Passes told faults script keeps (greeting_by c) names 0 before after
 passes_dials {told = told} {before = before} {p = p} c reflects unused new versions first taken ended runs = record {
-  versions = versions (starts c p (told before) reflects unused new) (new_words (greeting_by c) (told before) new);
+  versions = versions (starts c p (told before) reflects unused new) (new_greeting (greeting_by c) (told before) new);
   first = first (none_named (told before) new);
   most = omega (arith, taken);
   once = omega (arith, ended);
@@ -142,13 +128,13 @@ passes_dials {told = told} {before = before} {p = p} c reflects unused new versi
   course = runs.course;
 }
 
--- and no turn was taken, by a client of these words
+-- and no turn was taken, by a client of this greeting
 pub passes_untaken : {W : Type 0} {told : W → Told} {faults : W → ℕ} {script : W → Option Made} {keeps : W → Bool}
     {names : List (List ℕ)} {before after : W} {v : Greeting} {x y : ℤ} {n : ℕ} (turns : ℕ)
     → v ≡ record { moment = x; number = n } → x ≡ y → Passes told faults script keeps v names 0 before after
     → Passes told faults script keeps (record { moment = y; number = n }) names turns before after
 passes_untaken {told = told} {after = after} {v = v} {x = x} {y = y} {n = n} turns is same dials = record {
-  versions = has_so v (record { moment = y; number = n }) (told after) (words_so v x y n is same) dials.versions;
+  versions = has_so v (record { moment = y; number = n }) (told after) (greeting_so v x y n is same) dials.versions;
   first = dials.first;
   most = omega (arith, dials.most);
   once = dials.once;
@@ -166,7 +152,7 @@ pub passes_turns : {W : Type 0} {told : W → Told} {faults : W → ℕ} {script
     → Passes told faults script keeps (record { moment = y; number = n }) names turns before after
 passes_turns {told = told} {faults = faults} {script = script} {names = names} {before = before} {now = now}
     {after = after} {v = v} {w = w} {x = x} {y = y} {n = n} turns is first same dials keeps takes = record {
-      versions = words_then v w (record { moment = y; number = n }) (told now) (told after) (words_so v x y n is first) same
+      versions = greeting_then v w (record { moment = y; number = n }) (told now) (told after) (greeting_so v x y n is first) same
           dials.versions keeps;
       first = dialled_on names (told now) (told after) dials.first takes.same;
       most = takes.most;
@@ -179,13 +165,13 @@ passes_turns {told = told} {faults = faults} {script = script} {names = names} {
 
 -- and the wires are finished
 pub leaves_wires : {W : Type 0} {told : W → Told} {faults : W → ℕ} {script : W → Option Made} {keeps : W → Bool}
-    {names : List (List ℕ)} {turns : ℕ} {before now after : W} (v words : Greeting)
-    → v ≡ words → AreNewWires (told before) → Passes told faults script keeps v names turns before now
+    {names : List (List ℕ)} {turns : ℕ} {before now after : W} (v greeting : Greeting)
+    → v ≡ greeting → AreNewWires (told before) → Passes told faults script keeps v names turns before now
     → told after ≡ told_finished (told now) → faults now ≤ faults after → script after ≡ script now
     → keeps after ≡ keeps now
-    → LeavesWires told faults script keeps words names turns before after
+    → LeavesWires told faults script keeps greeting names turns before after
 leaves_wires {told = told} {faults = faults} {script = script} {names = names} {turns = turns} {before = before}
-    {now = now} {after = after} v words same new passes is later scripts kept =
+    {now = now} {after = after} v greeting same new passes is later scripts kept =
     let end : Course (told now) (told after) (faults now) (faults after) (script now) (script after) = record {
       later = later;
       blamed = λ clean. inl (subst NoFailure (sym is) clean);
@@ -195,7 +181,7 @@ leaves_wires {told = told} {faults = faults} {script = script} {names = names} {
     let course = course_on (told before) (told now) (told after) (faults before) (faults now) (faults after)
     (script before) (script now) (script after) passes.course end in
     record {
-      versions = subst (HasGreeting words) (sym is) (has_so v words (told now) same passes.versions);
+      versions = subst (HasGreeting greeting) (sym is) (has_so v greeting (told now) same passes.versions);
       dialled = subst (HasDialled names) (sym is) (record { most = passes.first.most; first = passes.first.first });
       most = subst (λ (t : Told). t.tally.taken ≤ turns) (sym is) passes.most;
       once = subst (λ (t : Told). t.tally.ended ≤ 1) (sym is) passes.once;

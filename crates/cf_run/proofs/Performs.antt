@@ -48,7 +48,7 @@ use Rattle.cf_place.specs.Places.{entry_of, MayAct, CutFor}
 use Rattle.cf_place.specs.Standing.{IsNamed, IsRepliedIn}
 use Rattle.cf_client.specs.Stands.{Reflects, count_of, rule_by}
 use Rattle.cf_run.specs.Run.{IsTicked, IsTraceOf}
-use Rattle.cf_run.specs.Moments.{Doing, ActsLeft, HoldsOver, closes, state_at, is_pending, is_fine}
+use Rattle.cf_run.specs.States.{Doing, ActsLeft, HoldsOver, closes, state_at, is_pending, is_fine}
 use Rattle.cf_sync.proofs.SameFetched.{same_wanted}
 use Rattle.cf_holds.proofs.TableGrows.{same_holds}
 use Rattle.cf_client.proofs.Spelled.{spelled_bytes}

@@ -1,5 +1,5 @@
 -- What is put of the texts of a run that follows, from moment to moment.
-use Rattle.std.proofs.Common.{◌≡◌, ◌⊎◌, inl, inr, ℕ, ◌+◌, ◌≤◌, Bool, List, [], ◌∷◌, ◌++◌, length, take, String, string_bytes, Option, Some, None, refl, sym, ◌∙◌, ap, subst, arith, if◌then◌else◌}
+use Rattle.std.proofs.Common.{◌≡◌, ◌⊎◌, inl, inr, ℕ, ◌≤◌, Bool, List, [], ◌∷◌, ◌++◌, length, take, String, string_bytes, Option, Some, None, Ok, Err, refl, sym, ◌∙◌, ap, subst, arith, if◌then◌else◌}
 use Rattle.std.specs.Prelude.{IfSome}
 use Rattle.std.specs.declared.alloc.Global.{Global}
 use Rattle.std.proofs.lemmas.Bool.{both_ways}
@@ -28,8 +28,8 @@ use Rattle.cf_run.specs.declared.progress.Progress.{Progress}
 use Rattle.cf_run.specs.declared.texts.TextFail.{TextFail}
 use Rattle.cf_run.specs.declared.texts.TextFail.TheVariants.{NoMemory, Failed}
 use Rattle.cf_run.specs.Run.{WasRun}
-use Rattle.cf_run.specs.Moments.{HoldsOver}
-use Rattle.cf_run.specs.Texts.{AllPut, ButPut, HasBegun, HasPut, HasPutBut, HasPutSo, HavePut, IsLast, PutBefore, PutBy, PutsBegun, PutsNext, PutsOne, PutsSome, SoPut, SomePut, joined}
+use Rattle.cf_run.specs.States.{HoldsOver}
+use Rattle.cf_run.specs.Texts.{AllPut, ButPut, CountsTexts, HasBegun, HasPut, HasPutBut, HasPutSo, HavePut, IsLast, PutBefore, PutBy, PutsBegun, PutsNext, PutsOne, PutsSome, SoPut, SomePut, joined}
 use Rattle.cf_run.specs.Whole.{GivesUp, IsShort}
 use Rattle.cf_run.proofs.Courses.{puts_taken}
 use Rattle.cf_run.proofs.Turns.{ended_holds, mode_same, rule_same, told_so, was_run}
@@ -361,3 +361,26 @@ pub gives_finished : {T : Type 0} (fail : TextFail) (told : T → Option (List �
 gives_finished NoMemory told faults watch called t before after short = short
 gives_finished Failed told faults watch called t before after cut =
     record { put = cut.put; run = cut.run; dialled = cut.dialled; risen = cut.risen }
+
+-- ---- what is counted of what takes the texts
+
+pub texts_ok : {A T : Type 0} {faults holds : T → ℕ} {x : A} {t u : T} → faults u ≡ faults t → holds u ≡ holds t
+    → CountsTexts faults holds (Ok x) t u
+texts_ok fine same =
+    record { fine = fine; short = λ is. absurd (cc is); failed = λ is. absurd (cc is); same_reference = same }
+
+-- no memory was found, and it hasn't failed
+pub texts_short : {A T : Type 0} {faults holds : T → ℕ} {t u : T} → faults u ≡ faults t → holds u ≡ holds t
+    → CountsTexts {A = A} faults holds (Err NoMemory) t u
+texts_short fine same =
+    record { fine = tt; short = λ is. fine; failed = λ is. absurd (cc is); same_reference = same }
+
+-- nor had it before a call that wasn't done
+pub texts_err : {A B T : Type 0} {faults holds : T → ℕ} (fail : TextFail) {t u v : T} → faults u ≡ faults t → holds u ≡ holds t
+    → CountsTexts {A = A} faults holds (Err fail) u v → CountsTexts {A = B} faults holds (Err fail) t v
+texts_err {faults = faults} fail {v = v} fine same texts = record {
+  fine = tt;
+  short = λ is. texts.short (cc is) ∙ fine;
+  failed = λ is. subst (λ (n : ℕ). HasRisen n (faults v)) fine (texts.failed (cc is));
+  same_reference = texts.same_reference ∙ same;
+}

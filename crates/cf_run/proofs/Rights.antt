@@ -1,5 +1,5 @@
 -- What was sent, closed and taken was right at each moment, also where a step finds no memory.
-use Rattle.std.proofs.Common.{◌≡◌, ◌<◌, ℕ, suc, List, [], ◌∷◌, length, drop, get_or, false, sym, subst}
+use Rattle.std.proofs.Common.{◌≡◌, ◌<◌, ℕ, suc, List, [], ◌∷◌, length, drop, get_or, false, Ok, Err, sym, ◌∙◌, subst}
 use Rattle.cf_bytes.specs.declared.peer.PeerNo.{PeerNo}
 use Rattle.cf_headers.specs.declared.store.HeaderStore.{Ghosts}
 use Rattle.cf_match.specs.declared.matcher.Matcher.{Ghosts as Judges}
@@ -13,12 +13,15 @@ use Rattle.cf_wires.specs.Log.{Log, Told, Tells, tell}
 use Rattle.cf_sync.specs.Fetching.{AreBytes, RightlyIn, Rule}
 use Rattle.cf_place.specs.Places.{MayAct}
 use Rattle.cf_client.specs.declared.client.Client.{Client}
-use Rattle.cf_client.specs.Stands.{rule_by}
+use Rattle.cf_client.specs.Stands.{rule_by, greeting_by}
 use Rattle.cf_run.specs.declared.progress.Progress.{Progress}
-use Rattle.cf_run.specs.Moments.{ActsLeft, Doing, HoldsOver, Notes, is_pending, state_at}
+use Rattle.cf_run.specs.States.{ActsLeft, Doing, HoldsOver, Notes, is_pending, state_at}
+use Rattle.cf_run.specs.Passing.{KeepsTerms, StaysRight}
 use Rattle.cf_run.specs.Run.{IsRight}
+use Rattle.cf_run.specs.Versions.{KeepsGreeting}
 use Rattle.cf_run.proofs.Performs.{next_left, sent_rightly, tells_more}
 use Rattle.cf_run.proofs.Turns.{told_so}
+use Rattle.cf_run.proofs.Versions.{keeps_then}
 
 -- of a log that the wires tell
 right_so : (mode : Mode) (actual : Log) (t : Told) → Tells actual t → AreBytes actual → RightlyIn mode actual → IsRight mode t
@@ -80,3 +83,27 @@ pub acts_right : {rule : Rule} (acts : List Act) (i : ℕ) (a : Act) (end : Log)
 acts_right acts i a end progress called t u lt is left step =
     let l = next_left acts i a end progress called t lt is left in
     step (drop (suc i) acts) called l.planned l.allowed.0 l.doing
+
+-- ---- a step that is a part of another, of which so much was done before, for a client that goes by and tells the same
+
+pub stays_on : {A B E F H M : Type 0} {g : Ghosts H} {j : Judges M} {c d : Client H M g j} {x : A} {y : B} {t u v : Told}
+    → greeting_by d ≡ greeting_by c → KeepsGreeting (greeting_by c) t u → StaysRight {E = E} (Ok x) d u v
+    → StaysRight {E = F} (Ok y) c t v
+stays_on {c = c} {d = d} {t = t} {u = u} {v = v} greeting keeps stays =
+    record { right = tt; versions = keeps_then (greeting_by d) (greeting_by c) t u v greeting keeps stays.versions }
+
+pub stays_err : {A B E F H M : Type 0} {g : Ghosts H} {j : Judges M} {c d : Client H M g j} {x : E} {y : F} {t u v : Told}
+    → rule_by d ≡ rule_by c → greeting_by d ≡ greeting_by c → KeepsGreeting (greeting_by c) t u
+    → StaysRight {A = A} (Err x) d u v → StaysRight {A = B} (Err y) c t v
+stays_err {c = c} {d = d} {t = t} {u = u} {v = v} rule greeting keeps stays = record {
+  right = right_by v rule stays.right;
+  versions = keeps_then (greeting_by d) (greeting_by c) t u v greeting keeps stays.versions;
+}
+
+pub terms_on : {A B E F H M : Type 0} {g : Ghosts H} {j : Judges M} {c d e : Client H M g j} {x : A} {y : B}
+    → rule_by d ≡ rule_by c → greeting_by d ≡ greeting_by c → KeepsTerms {E = E} (Ok x) d e → KeepsTerms {E = F} (Ok y) c e
+terms_on rule greeting terms = record { rule = terms.rule ∙ rule; greeting = terms.greeting ∙ greeting }
+
+pub terms_err : {A B E F H M : Type 0} {g : Ghosts H} {j : Judges M} {c d e : Client H M g j} {x : E} {y : F}
+    → greeting_by d ≡ greeting_by c → KeepsTerms {A = A} (Err x) d e → KeepsTerms {A = B} (Err y) c e
+terms_err greeting terms = record { rule = tt; greeting = terms.greeting ∙ greeting }

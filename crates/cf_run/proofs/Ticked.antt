@@ -27,7 +27,7 @@ use Rattle.cf_client.proofs.Pinging.{after_tick}
 use Rattle.cf_client.proofs.Spelled.{spelled_bytes}
 use Rattle.cf_run.specs.declared.progress.Progress.{Progress}
 use Rattle.cf_run.specs.Run.{IsTicked}
-use Rattle.cf_run.specs.Moments.{Doing}
+use Rattle.cf_run.specs.States.{Doing}
 use Rattle.cf_run.proofs.Performs.{connected_same}
 use Rattle.cf_run.proofs.Entries.{sent_here, sent_others}
 

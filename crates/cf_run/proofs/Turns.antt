@@ -34,7 +34,7 @@ use Rattle.cf_run.specs.Names.{names_in}
 use Rattle.cf_hear.proofs.Tracking.{tracks_ended}
 use Rattle.cf_client.specs.Stands.{Reflects, IsReportOf, seen_by, rule_by, greeting_by}
 use Rattle.cf_run.specs.Run.{IsOrderly, WasOrderly, AreNumbered, IsUntaken, IsTicked, WereAskedOut, WerePinged, WasRun, RanTo, AreBytesOf, IsEnd, IsTraceOf, names_of, is_lost, NobodyLeft}
-use Rattle.cf_run.specs.Moments.{IsUnused, Notes, Doing, HoldsOver, Stopped, IsEndTold, state_at, is_pending, is_fine}
+use Rattle.cf_run.specs.States.{IsUnused, Notes, Doing, HoldsOver, Stopped, state_at, is_pending, is_fine}
 use Rattle.cf_client.specs.Blameless.{AreAskedOut}
 use Rattle.cf_peer.specs.declared.act.Act.{Act}
 use Rattle.cf_holds.specs.Due.{ArePlanned}
@@ -236,8 +236,8 @@ reflects_same {H = H} {M = M} {g = g} {j = j} {log = log} same reflects = subst 
 pub rule_same : {H M : Type 0} {g : Ghosts H} {j : Judges M} {c d : Client H M g j} → d ≡ c → rule_by d ≡ rule_by c
 rule_same {H = H} {M = M} {g = g} {j = j} same = ap (λ (x : Client H M g j). rule_by x) same
 
-pub words_same : {H M : Type 0} {g : Ghosts H} {j : Judges M} {c d : Client H M g j} → d ≡ c → greeting_by d ≡ greeting_by c
-words_same {H = H} {M = M} {g = g} {j = j} same = ap (λ (x : Client H M g j). greeting_by x) same
+pub greeting_same : {H M : Type 0} {g : Ghosts H} {j : Judges M} {c d : Client H M g j} → d ≡ c → greeting_by d ≡ greeting_by c
+greeting_same {H = H} {M = M} {g = g} {j = j} same = ap (λ (x : Client H M g j). greeting_by x) same
 
 pub mode_same : {H M : Type 0} {g : Ghosts H} {j : Judges M} {c d : Client H M g j} {mode : Mode} → d ≡ c → (rule_by c).mode ≡ mode → (rule_by d).mode ≡ mode
 mode_same same is = ap (λ (r : Rule). r.mode) (rule_same same) ∙ is
@@ -620,11 +620,3 @@ pub names_more : (names : List (String Global)) (i : ℕ) (name : String Global)
 names_more names i name lt is =
     let cut : take (i + 1) names ≡ take i names ++ name ∷ [] = take_more names i name lt ∙ ap (λ (x : String Global). take i names ++ x ∷ []) (sym is) in
     sym (ap names_in cut ∙ map-append string_bytes (take i names) (name ∷ []))
-
--- the end isn't told where the run goes on
-pub told_unended : (o : Option End) (before after : Tally) → o ≡ None → IsEndTold o before after → after.ended ≡ before.ended
-told_unended o before after is told = subst (λ (x : Option End). IsEndTold x before after) is told
-
--- the end is told once where a turn ends for it, and not where the run goes on
-pub told_end : (o : Option End) (before after : Tally) → o ≡ Some EndedFirst → IsEndTold o before after → after.ended ≡ before.ended + 1
-told_end o before after is told = subst (λ (x : Option End). IsEndTold x before after) is told

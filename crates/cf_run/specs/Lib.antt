@@ -1,6 +1,6 @@
 pub mod Names
 pub mod Run
-pub mod Moments
+pub mod States
 pub mod Versions
 pub mod Passing
 pub mod Texts

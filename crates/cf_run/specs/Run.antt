@@ -143,7 +143,7 @@ HasFailed log = list_any is_failure log ≡ true
 abbrev pub NoFailure : Told → Type 0
 NoFailure t = IfSome t.log (λ log. list_any is_failure log ≡ false)
 
--- from one moment to a later one: the count of faults never falls, and where a dial or a send has failed in between it has risen; a log that is told
+-- from one state of the wires to a later one: the count of faults never falls, and where a dial or a send has failed in between it has risen; a log that is told
 -- goes on to be; the script stays
 pub record Course (t u : Told) (f g : ℕ) (s r : Option Made) : Type 0 where
   pub later : f ≤ g

@@ -1,7 +1,7 @@
 -- statement: what was put of the texts of a run that follows.
-use Rattle.std.specs.Prelude.{◌≡◌, ◌⊎◌, ℕ, ◌≤◌, List, [], ◌∷◌, ◌++◌, length, take, Option, Some, None, IfSome, String, string_bytes}
+use Rattle.std.specs.Prelude.{◌≡◌, ◌⊎◌, ℕ, ◌≤◌, List, [], ◌∷◌, ◌++◌, length, take, Option, Some, None, IfSome, Result, OnOk, IsErrOf, String, string_bytes}
 use Rattle.std.specs.declared.alloc.Global.{Global}
-use Rattle.cf_bytes.specs.Outside.{with_more}
+use Rattle.cf_bytes.specs.Outside.{HasRisen, with_more}
 use Rattle.cf_headers.specs.declared.store.HeaderStore.{Ghosts}
 use Rattle.cf_match.specs.declared.matcher.Matcher.{Ghosts as Judges}
 use Rattle.cf_peer.specs.declared.mode.Mode.TheVariants.{Following}
@@ -126,3 +126,10 @@ pub record ButPut (watch called : List (List ℕ)) (t : Told) (before now : Opti
 abbrev pub SomePut : TextFail → (watch called : List (List ℕ)) → Told → Option (List ℕ) → Option (List ℕ) → Type 0
 SomePut NoMemory watch called t before now = SoPut watch t before now
 SomePut Failed watch called t before now = ButPut watch called t before now
+
+-- over a call that is answered so what takes the texts counts a failure where it has failed, and else none; and the reference that it goes to stays
+pub record CountsTexts {A T : Type 0} (faults holds : T → ℕ) (result : Result A TextFail) (before after : T) : Type 0 where
+  pub fine : OnOk result (faults after ≡ faults before)
+  pub short : IsErrOf result NoMemory → faults after ≡ faults before
+  pub failed : IsErrOf result Failed → HasRisen (faults before) (faults after)
+  pub same_reference : holds after ≡ holds before

@@ -21,12 +21,12 @@ pub record AreNewWires (told : Told) : Type 0 where
   pub log : Tells [] told
   pub finished : told.finished ≡ false
 
--- The wires after a run over new ones, whatever it answers. Each version that was sent tells these words; the names were dialled in order, as far as it came;
+-- The wires after a run over new ones, whatever it answers. Each version that was sent tells this greeting; the names were dialled in order, as far as it came;
 -- it took no more deliveries than it has turns, and the end once at most; the wires are finished; and where a dial or a send has failed their count of faults
 -- has risen.
-pub record LeavesWires {W : Type 0} (told : W → Told) (faults : W → ℕ) (script : W → Option Made) (keeps : W → Bool) (words : Greeting) (names : List (List ℕ))
+pub record LeavesWires {W : Type 0} (told : W → Told) (faults : W → ℕ) (script : W → Option Made) (keeps : W → Bool) (greeting : Greeting) (names : List (List ℕ))
     (turns : ℕ) (before after : W) : Type 0 where
-  pub versions : HasGreeting words (told after)
+  pub versions : HasGreeting greeting (told after)
   pub dialled : HasDialled names (told after)
   pub most : (told after).tally.taken ≤ turns
   pub once : (told after).tally.ended ≤ 1

@@ -1,14 +1,12 @@
 //! A run that follows: the dials, the deliveries, and the texts of its moments at rest.
-ghost use Rattle.std.specs.Prelude.{◌≡◌, ◌≢◌, ℕ, None, ◌<◌, ◌≤◌, ◌+◌, ◌∷◌, [], List, Option, OnOk, OnErr, IfOk, IfErr, IfSome, IsErrOf, Some, false, length, string_bytes, if◌then◌else◌};
-ghost use Rattle.cf_bytes.specs.{HasRisen};
+ghost use Rattle.std.specs.Prelude.{◌≡◌, ◌≢◌, ℕ, None, ◌<◌, ◌≤◌, ◌+◌, ◌∷◌, [], List, Option, OnOk, IfOk, IfErr, IfSome, Some, false, length, string_bytes, if◌then◌else◌};
 ghost use Rattle.cf_client.specs.{Reflects, count_of, rule_by, watch_by, greeting_by};
 ghost use Rattle.cf_peer.specs.declared.mode.Mode.TheVariants.{Following};
 ghost use Rattle.cf_run.specs.Names.{names_in};
-ghost use Rattle.cf_run.specs.Passing.{Passes};
+ghost use Rattle.cf_run.specs.Passing.{Passes, StaysRight};
 ghost use Rattle.cf_run.specs.Run.{IsEnd, IsRight};
-ghost use Rattle.cf_run.specs.Moments.{EndsTurns, HoldsOver, IsInStep, Stopped, TakesTurns, Turned, Turns, run_state};
-ghost use Rattle.cf_run.specs.Texts.{AllPut, HavePut, IsLast, IsOver, PutBefore, PutsBegun, PutsNext, PutsOne, PutsSome, SomePut};
-ghost use Rattle.cf_run.specs.Versions.{KeepsGreeting};
+ghost use Rattle.cf_run.specs.States.{EndsTurns, HoldsOver, IsInStep, Stopped, TakesTurns, Turned, Turns, run_state, CountsTurn};
+ghost use Rattle.cf_run.specs.Texts.{AllPut, HavePut, IsLast, IsOver, PutBefore, PutsBegun, PutsNext, PutsOne, PutsSome, SomePut, CountsTexts};
 ghost use Rattle.cf_run.specs.Whole.{AreNewWires, EndsWithin, GivesUp, IsOutcome, LeavesWires, PutsAll};
 ghost use Rattle.cf_sync.specs.{following, FollowTheorem, put};
 ghost use Rattle.cf_wires.specs.Log.{Log};
@@ -49,10 +47,7 @@ fn put_text<T: Texts>(
         → PutsOne (string_bytes text) before last.new (T.told texts.old) (T.told texts.new)) }
     ensures begun { IfErr result (λ fail. (before : List (List ℕ)) → IsLast last.old before
         → PutsBegun fail (string_bytes text) before (T.told texts.old) (T.told texts.new)) }
-    ensures fine { OnOk result (T.faults texts.new ≡ T.faults texts.old) }
-    ensures short { IsErrOf result TextFail.NoMemory → T.faults texts.new ≡ T.faults texts.old }
-    ensures failed { IsErrOf result TextFail.Failed → HasRisen (T.faults texts.old) (T.faults texts.new) }
-    ensures same_reference { T.holds texts.new ≡ T.holds texts.old }
+    ensures texts { CountsTexts T.faults T.holds result texts.old texts.new }
 {
     if is_last(last, text.as_str()) {
         return Ok(());
@@ -76,10 +71,7 @@ fn put_at_rest<H: HeaderStore, M: Matcher, T: Texts>(
     ensures put_some { IfErr result (λ fail. (before : List (List ℕ)) → IsLast last.old before
         → PutsSome fail client.old before (T.told texts.old) (T.told texts.new)) }
     ensures same { OnOk result (client.new ≡ client.old) }
-    ensures fine { OnOk result (T.faults texts.new ≡ T.faults texts.old) }
-    ensures short { IsErrOf result TextFail.NoMemory → T.faults texts.new ≡ T.faults texts.old }
-    ensures failed { IsErrOf result TextFail.Failed → HasRisen (T.faults texts.old) (T.faults texts.new) }
-    ensures same_reference { T.holds texts.new ≡ T.holds texts.old }
+    ensures texts { CountsTexts T.faults T.holds result texts.old texts.new }
 {
     match client.state() {
         State::Working => return Ok(()),
@@ -132,28 +124,15 @@ fn follow_turn<W: Wires, H: HeaderStore, M: Matcher, T: Texts>(
         → watch_by client.old ≡ watch → HoldsOver client.old progress.old called (W.told wires.old)
         → HavePut watch last.old (W.told wires.old) first (T.told texts.old)
         → SomePut fail watch called (W.told wires.new) first (T.told texts.new)) }
-    ensures right { OnErr result ((called : List (List ℕ)) → HoldsOver client.old progress.old called (W.told wires.old)
-        → IsRight (rule_by client.old).mode (W.told wires.new)) }
-    ensures versions { (called : List (List ℕ)) → HoldsOver client.old progress.old called (W.told wires.old)
-        → KeepsGreeting (greeting_by client.old) (W.told wires.old) (W.told wires.new) }
+    ensures stays { (called : List (List ℕ)) → HoldsOver client.old progress.old called (W.told wires.old)
+        → StaysRight result client.old (W.told wires.old) (W.told wires.new) }
     ensures rule { OnOk result (rule_by client.new ≡ rule_by client.old) }
-    ensures words { OnOk result (greeting_by client.new ≡ greeting_by client.old) }
-    ensures taken { IfOk result (λ end. end ≡ None
-        → (W.told wires.new).tally.taken ≡ (W.told wires.old).tally.taken + 1) }
-    ensures untaken { IfOk result (λ end. end ≢ None
-        → (W.told wires.new).tally.taken ≡ (W.told wires.old).tally.taken) }
-    ensures untired { IfOk result (λ end. end ≢ Some End.Tired) }
-    ensures unended { IfOk result (λ end. end ≡ None
-        → (W.told wires.new).tally.ended ≡ (W.told wires.old).tally.ended) }
-    ensures ended { IfOk result (λ end. (e : End) → end ≡ Some e → e ≢ End.NoPeers
-        → (W.told wires.new).tally.ended ≡ (W.told wires.old).tally.ended + 1) }
+    ensures greeting { OnOk result (greeting_by client.new ≡ greeting_by client.old) }
+    ensures counts { IfOk result (λ end. CountsTurn Following end (W.told wires.old).tally (W.told wires.new).tally) }
     ensures turns { Turns
         (run_state (W.told wires.old) (W.faults wires.old) (W.script wires.old) (W.keeps wires.old) progress.old)
         (run_state (W.told wires.new) (W.faults wires.new) (W.script wires.new) (W.keeps wires.new) progress.new) }
-    ensures fine { OnOk result (T.faults texts.new ≡ T.faults texts.old) }
-    ensures short { IsErrOf result TextFail.NoMemory → T.faults texts.new ≡ T.faults texts.old }
-    ensures failed { IsErrOf result TextFail.Failed → HasRisen (T.faults texts.old) (T.faults texts.new) }
-    ensures same_reference { T.holds texts.new ≡ T.holds texts.old }
+    ensures texts { CountsTexts T.faults T.holds result texts.old texts.new }
 {
     put_at_rest(alloc, client, texts, last)?;
     if let State::NoPeers = client.state() {
@@ -190,20 +169,15 @@ fn follow_turns<W: Wires, H: HeaderStore, M: Matcher, T: Texts>(
     ensures put_some { IfErr result (λ fail. (watch called : List (List ℕ)) → watch_by client.old ≡ watch
         → HoldsOver client.old progress.old called (W.told wires.old) → PutBefore watch [] (W.told wires.old)
         → SomePut fail watch called (W.told wires.new) (T.told texts.old) (T.told texts.new)) }
-    ensures right { OnErr result ((called : List (List ℕ)) → HoldsOver client.old progress.old called (W.told wires.old)
-        → IsRight (rule_by client.old).mode (W.told wires.new)) }
-    ensures versions { (called : List (List ℕ)) → HoldsOver client.old progress.old called (W.told wires.old)
-        → KeepsGreeting (greeting_by client.old) (W.told wires.old) (W.told wires.new) }
+    ensures stays { (called : List (List ℕ)) → HoldsOver client.old progress.old called (W.told wires.old)
+        → StaysRight result client.old (W.told wires.old) (W.told wires.new) }
     ensures rule { OnOk result (rule_by client.new ≡ rule_by client.old) }
     ensures done { IfOk result (λ end. end ≡ End.Synced → IsOver turns (W.told wires.new).tally) }
     ensures ends { IfOk result (λ end. EndsTurns end turns (W.told wires.new).tally) }
     ensures takes { TakesTurns turns
         (run_state (W.told wires.old) (W.faults wires.old) (W.script wires.old) (W.keeps wires.old) progress.old)
         (run_state (W.told wires.new) (W.faults wires.new) (W.script wires.new) (W.keeps wires.new) progress.new) }
-    ensures fine { OnOk result (T.faults texts.new ≡ T.faults texts.old) }
-    ensures short { IsErrOf result TextFail.NoMemory → T.faults texts.new ≡ T.faults texts.old }
-    ensures failed { IsErrOf result TextFail.Failed → HasRisen (T.faults texts.old) (T.faults texts.new) }
-    ensures same_reference { T.holds texts.new ≡ T.holds texts.old }
+    ensures texts { CountsTexts T.faults T.holds result texts.old texts.new }
 {
     let mut last = None;
     for _turn in 0..turns {
@@ -227,7 +201,7 @@ fn follower<H: HeaderStore + Drop, M: Matcher + Drop>(
     requires { (q : ℕ) → H.chain store q ≡ None }
     ensures reflects { IfOk result (λ c. Reflects c []) }
     ensures rule { IfOk result (λ c. rule_by c ≡ following watch) }
-    ensures words { IfOk result (λ c. greeting_by c ≡ record { moment = moment; number = nonce }) }
+    ensures greeting { IfOk result (λ c. greeting_by c ≡ record { moment = moment; number = nonce }) }
     ensures count { IfOk result (λ c. count_of c ≡ 1) }
 {
     let client = Client::new(alloc, watch, store, matcher, moment, nonce)?;

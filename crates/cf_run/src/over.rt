@@ -1,12 +1,12 @@
 //! The run of a client over any wires: the dials, the turns, and the finish.
-ghost use Rattle.std.specs.Prelude.{◌≡◌, ◌≢◌, ℕ, None, ◌<◌, ◌≤◌, ◌+◌, ◌∷◌, ◌++◌, [], List, OnOk, OnErr, IfOk, IfNone, IfSome, IsErrOf, true, false, length};
+ghost use Rattle.std.specs.Prelude.{◌≡◌, ◌≢◌, ℕ, None, ◌<◌, ◌≤◌, ◌+◌, ◌∷◌, ◌++◌, [], List, OnOk, OnErr, IfOk, IfSome, IsErrOf, true, false, length};
 ghost use Rattle.cf_run.specs.Names.{names_in};
 ghost use Rattle.cf_sync.specs.{MayTake, Rule, once, SyncTheorem};
 ghost use Rattle.cf_run.specs.Texts.{PutBefore, PutBy};
 ghost use Rattle.cf_place.specs.{MayAct, Allowed, after, entry_of, ActTells, Greeting, TellsGreeting};
-ghost use Rattle.cf_run.specs.Passing.{CountsOne, Passes};
+ghost use Rattle.cf_run.specs.Passing.{Passes, KeepsTerms, StaysRight};
 ghost use Rattle.cf_run.specs.Run.{AreBytesOf, HasDialled, HasNames, IsEnd, IsRight, IsTicked};
-ghost use Rattle.cf_run.specs.Moments.{Doing, HoldsOver, run_state, Runs, Performs, Dials, Turns, IsOneMore, Turned, Stopped, IsInStep, IsEndTold, EndsTurns, TakesTurns};
+ghost use Rattle.cf_run.specs.States.{Doing, HoldsOver, run_state, Runs, Performs, Dials, Turns, IsOneMore, Turned, Stopped, IsInStep, EndsTurns, TakesTurns, CountsTurn};
 ghost use Rattle.cf_client.specs.{Reflects, Answers, count_of, rule_by, greeting_by};
 ghost use Rattle.cf_run.specs.Versions.{KeepsGreeting};
 ghost use Rattle.cf_run.specs.Whole.{AreNewWires, EndsWithin, IsOutcome, LeavesWires};
@@ -80,8 +80,8 @@ fn perform_send<W: Wires>(
         → MayAct rule (Send p message.now) planned
         → Doing rule (Send p message.now ∷ more) progress.old called planned (W.told wires.old)
         → IsRight rule.mode (W.told wires.new)) }
-    ensures versions { (words : Greeting) → TellsGreeting words message.now
-        → KeepsGreeting words (W.told wires.old) (W.told wires.new) }
+    ensures versions { (greeting : Greeting) → TellsGreeting greeting message.now
+        → KeepsGreeting greeting (W.told wires.old) (W.told wires.new) }
     ensures performs { Performs
         (run_state (W.told wires.old) (W.faults wires.old) (W.script wires.old) (W.keeps wires.old) progress.old)
         (run_state (W.told wires.new) (W.faults wires.new) (W.script wires.new) (W.keeps wires.new) progress.new) }
@@ -120,7 +120,7 @@ fn perform_close<W: Wires>(
         → MayAct rule (Close p cause) planned
         → Doing rule (Close p cause ∷ more) progress.old called planned (W.told wires.old)
         → IsRight rule.mode (W.told wires.new)) }
-    ensures versions { (words : Greeting) → KeepsGreeting words (W.told wires.old) (W.told wires.new) }
+    ensures versions { (greeting : Greeting) → KeepsGreeting greeting (W.told wires.old) (W.told wires.new) }
     ensures performs { Performs
         (run_state (W.told wires.old) (W.faults wires.old) (W.script wires.old) (W.keeps wires.old) progress.old)
         (run_state (W.told wires.new) (W.faults wires.new) (W.script wires.new) (W.keeps wires.new) progress.new) }
@@ -153,8 +153,8 @@ fn perform_act<W: Wires>(
     ensures right { OnErr result ((rule : Rule) (more : List Act) (called : List (List ℕ)) (planned : Log)
         → MayAct rule act.now planned → Doing rule (act.now ∷ more) progress.old called planned (W.told wires.old)
         → IsRight rule.mode (W.told wires.new)) }
-    ensures versions { (words : Greeting) → ActTells words act.now
-        → KeepsGreeting words (W.told wires.old) (W.told wires.new) }
+    ensures versions { (greeting : Greeting) → ActTells greeting act.now
+        → KeepsGreeting greeting (W.told wires.old) (W.told wires.new) }
     ensures performs { Performs
         (run_state (W.told wires.old) (W.faults wires.old) (W.script wires.old) (W.keeps wires.old) progress.old)
         (run_state (W.told wires.new) (W.faults wires.new) (W.script wires.new) (W.keeps wires.new) progress.new) }
@@ -187,8 +187,8 @@ fn perform_acts<W: Wires>(
     ensures right { OnErr result ((rule : Rule) (called : List (List ℕ)) (planned : Log)
         → Allowed rule acts.now planned → Doing rule acts.now progress.old called planned (W.told wires.old)
         → IsRight rule.mode (W.told wires.new)) }
-    ensures versions { (words : Greeting) → All (ActTells words) acts.now
-        → KeepsGreeting words (W.told wires.old) (W.told wires.new) }
+    ensures versions { (greeting : Greeting) → All (ActTells greeting) acts.now
+        → KeepsGreeting greeting (W.told wires.old) (W.told wires.new) }
     ensures performs { Performs
         (run_state (W.told wires.old) (W.faults wires.old) (W.script wires.old) (W.keeps wires.old) progress.old)
         (run_state (W.told wires.new) (W.faults wires.new) (W.script wires.new) (W.keeps wires.new) progress.new) }
@@ -213,15 +213,11 @@ fn settle<W: Wires, H: HeaderStore, M: Matcher>(
         → Doing (rule_by client.old) [] progress.old called planned (W.told wires.old)
         → IsTicked (rule_by client.old).mode planned
         → HoldsOver client.new progress.new called (W.told wires.new)) }
-    ensures right { OnErr result ((called : List (List ℕ)) (planned : Log) → Reflects client.old planned
-        → Doing (rule_by client.old) [] progress.old called planned (W.told wires.old)
-        → IsRight (rule_by client.old).mode (W.told wires.new)) }
-    ensures versions { (called : List (List ℕ)) (planned : Log)
+    ensures stays { (called : List (List ℕ)) (planned : Log)
         → Reflects client.old planned → Doing (rule_by client.old) [] progress.old called planned (W.told wires.old)
-        → KeepsGreeting (greeting_by client.old) (W.told wires.old) (W.told wires.new) }
+        → StaysRight result client.old (W.told wires.old) (W.told wires.new) }
     ensures count { OnOk result (count_of client.new ≡ count_of client.old) }
-    ensures rule { OnOk result (rule_by client.new ≡ rule_by client.old) }
-    ensures words { greeting_by client.new ≡ greeting_by client.old }
+    ensures terms { KeepsTerms result client.old client.new }
     ensures performs { Performs
         (run_state (W.told wires.old) (W.faults wires.old) (W.script wires.old) (W.keeps wires.old) progress.old)
         (run_state (W.told wires.new) (W.faults wires.new) (W.script wires.new) (W.keeps wires.new) progress.new) }
@@ -257,8 +253,7 @@ fn carry_out<W: Wires, H: HeaderStore, M: Matcher>(
         → All (ActTells (greeting_by client.old)) acts.now
         → KeepsGreeting (greeting_by client.old) (W.told wires.old) (W.told wires.new) }
     ensures count { OnOk result (count_of client.new ≡ count_of client.old) }
-    ensures rule { OnOk result (rule_by client.new ≡ rule_by client.old) }
-    ensures words { greeting_by client.new ≡ greeting_by client.old }
+    ensures terms { KeepsTerms result client.old client.new }
     ensures performs { Performs
         (run_state (W.told wires.old) (W.faults wires.old) (W.script wires.old) (W.keeps wires.old) progress.old)
         (run_state (W.told wires.new) (W.faults wires.new) (W.script wires.new) (W.keeps wires.new) progress.new) }
@@ -284,13 +279,11 @@ fn greet<W: Wires, H: HeaderStore, M: Matcher>(
     ensures holds { OnOk result ((called : List (List ℕ)) (log : Log) → Reflects client.old log → ((acts : List Act)
         → Doing (rule_by client.old) acts progress.old called (Dialled p name.now ∷ log) (W.told wires.old))
         → IsTicked (rule_by client.old).mode log → HoldsOver client.new progress.new called (W.told wires.new)) }
-    ensures right { OnErr result ((called : List (List ℕ)) (log : Log) → Reflects client.old log → ((acts : List Act)
+    ensures stays { (called : List (List ℕ)) (log : Log) → Reflects client.old log → ((acts : List Act)
         → Doing (rule_by client.old) acts progress.old called (Dialled p name.now ∷ log) (W.told wires.old))
-        → IsRight (rule_by client.old).mode (W.told wires.new)) }
-    ensures versions { (called : List (List ℕ)) (log : Log) → Reflects client.old log → ((acts : List Act)
-        → Doing (rule_by client.old) acts progress.old called (Dialled p name.now ∷ log) (W.told wires.old))
-        → KeepsGreeting (greeting_by client.old) (W.told wires.old) (W.told wires.new) }
-    ensures counts { OnOk result (CountsOne client.old client.new) }
+        → StaysRight result client.old (W.told wires.old) (W.told wires.new) }
+    ensures count { OnOk result (count_of client.new ≡ count_of client.old + 1) }
+    ensures terms { KeepsTerms result client.old client.new }
     ensures performs { Performs
         (run_state (W.told wires.old) (W.faults wires.old) (W.script wires.old) (W.keeps wires.old) progress.old)
         (run_state (W.told wires.new) (W.faults wires.new) (W.script wires.new) (W.keeps wires.new) progress.new) }
@@ -316,11 +309,10 @@ fn dial_one<W: Wires, H: HeaderStore, M: Matcher>(
     requires open { (W.told wires.old).finished ≡ false }
     ensures holds { OnOk result ((called : List (List ℕ)) → HoldsOver client.old progress.old called (W.told wires.old)
         → HoldsOver client.new progress.new (called ++ name.now ∷ []) (W.told wires.new)) }
-    ensures right { OnErr result ((called : List (List ℕ)) → HoldsOver client.old progress.old called (W.told wires.old)
-        → IsRight (rule_by client.old).mode (W.told wires.new)) }
-    ensures versions { (called : List (List ℕ)) → HoldsOver client.old progress.old called (W.told wires.old)
-        → KeepsGreeting (greeting_by client.old) (W.told wires.old) (W.told wires.new) }
-    ensures counts { OnOk result (CountsOne client.old client.new) }
+    ensures stays { (called : List (List ℕ)) → HoldsOver client.old progress.old called (W.told wires.old)
+        → StaysRight result client.old (W.told wires.old) (W.told wires.new) }
+    ensures count { OnOk result (count_of client.new ≡ count_of client.old + 1) }
+    ensures terms { KeepsTerms result client.old client.new }
     ensures one { OnOk result (IsOneMore name.now (W.told wires.old) (W.told wires.new)) }
     ensures dials { Dials name.now
         (run_state (W.told wires.old) (W.faults wires.old) (W.script wires.old) (W.keeps wires.old) progress.old)
@@ -369,16 +361,12 @@ pub(crate) fn take_next<W: Wires, H: HeaderStore, M: Matcher>(
         → HoldsOver client.new progress.new called (W.told wires.new)) }
     ensures over { IfOk result (λ more. more ≡ false → (client.new ≡ client.old) × (progress.new ≡ progress.old)
         × (W.told wires.new ≡ tell (Took Ended) (W.told wires.old))) }
-    ensures right { OnErr result ((called : List (List ℕ))
-        (holds : HoldsOver client.old progress.old called (W.told wires.old))
-        → MayTake (rule_by client.old).mode holds.actual → IsRight (rule_by client.old).mode (W.told wires.new)) }
-    ensures versions { (called : List (List ℕ)) (holds : HoldsOver client.old progress.old called (W.told wires.old))
+    ensures stays { (called : List (List ℕ)) (holds : HoldsOver client.old progress.old called (W.told wires.old))
         → MayTake (rule_by client.old).mode holds.actual
-        → KeepsGreeting (greeting_by client.old) (W.told wires.old) (W.told wires.new) }
+        → StaysRight result client.old (W.told wires.old) (W.told wires.new) }
     ensures puts { OnOk result ((watch texts : List (List ℕ)) → PutBy watch texts (W.told wires.old)
         → PutBefore watch texts (W.told wires.new)) }
-    ensures rule { OnOk result (rule_by client.new ≡ rule_by client.old) }
-    ensures words { greeting_by client.new ≡ greeting_by client.old }
+    ensures terms { KeepsTerms result client.old client.new }
     ensures taken { IfOk result (λ more. more ≡ true
         → (W.told wires.new).tally.taken ≡ (W.told wires.old).tally.taken + 1) }
     ensures unended { IfOk result (λ more. more ≡ true
@@ -410,18 +398,10 @@ fn take_turn<W: Wires, H: HeaderStore, M: Matcher>(
     ensures turned { IfOk result (λ end. (called : List (List ℕ))
         → HoldsOver client.old progress.old called (W.told wires.old)
         → Turned end client.new progress.new called (W.told wires.new)) }
-    ensures right { OnErr result ((called : List (List ℕ)) → HoldsOver client.old progress.old called (W.told wires.old)
-        → IsRight (rule_by client.old).mode (W.told wires.new)) }
-    ensures versions { (called : List (List ℕ)) → HoldsOver client.old progress.old called (W.told wires.old)
-        → KeepsGreeting (greeting_by client.old) (W.told wires.old) (W.told wires.new) }
-    ensures rule { OnOk result (rule_by client.new ≡ rule_by client.old) }
-    ensures words { greeting_by client.new ≡ greeting_by client.old }
-    ensures taken { IfOk result
-        (λ end. IfNone end ((W.told wires.new).tally.taken ≡ (W.told wires.old).tally.taken + 1)) }
-    ensures untaken { IfOk result
-        (λ end. IfSome end (λ e. (W.told wires.new).tally.taken ≡ (W.told wires.old).tally.taken)) }
-    ensures untired { IfOk result (λ end. end ≢ Some End.Tired) }
-    ensures ended { IfOk result (λ end. IsEndTold end (W.told wires.old).tally (W.told wires.new).tally) }
+    ensures stays { (called : List (List ℕ)) → HoldsOver client.old progress.old called (W.told wires.old)
+        → StaysRight result client.old (W.told wires.old) (W.told wires.new) }
+    ensures terms { KeepsTerms result client.old client.new }
+    ensures counts { IfOk result (λ end. CountsTurn Once end (W.told wires.old).tally (W.told wires.new).tally) }
     ensures turns { Turns
         (run_state (W.told wires.old) (W.faults wires.old) (W.script wires.old) (W.keeps wires.old) progress.old)
         (run_state (W.told wires.new) (W.faults wires.new) (W.script wires.new) (W.keeps wires.new) progress.new) }
@@ -455,12 +435,9 @@ fn dial_all<W: Wires, H: HeaderStore, M: Matcher>(
     requires open { (W.told wires.old).finished ≡ false }
     ensures holds { OnOk result (HoldsOver client.old progress.old [] (W.told wires.old)
         → HoldsOver client.new progress.new (names_in names.now) (W.told wires.new)) }
-    ensures right { OnErr result (HoldsOver client.old progress.old [] (W.told wires.old)
-        → IsRight (rule_by client.old).mode (W.told wires.new)) }
-    ensures versions { HoldsOver client.old progress.old [] (W.told wires.old)
-        → KeepsGreeting (greeting_by client.old) (W.told wires.old) (W.told wires.new) }
-    ensures rule { OnOk result (rule_by client.new ≡ rule_by client.old) }
-    ensures words { OnOk result (greeting_by client.new ≡ greeting_by client.old) }
+    ensures stays { HoldsOver client.old progress.old [] (W.told wires.old)
+        → StaysRight result client.old (W.told wires.old) (W.told wires.new) }
+    ensures terms { KeepsTerms result client.old client.new }
     ensures dialled { OnOk result ((W.told wires.new).tally.dials ≡ length names.now) }
     ensures first { HasNames [] (W.told wires.old) → HasDialled (names_in names.now) (W.told wires.new) }
     ensures taken { (W.told wires.new).tally.taken ≡ 0 }
@@ -491,8 +468,7 @@ pub(crate) fn dial_first<W: Wires, H: HeaderStore, M: Matcher>(
     ensures holds { IfOk result (λ progress.
         HoldsOver client.new progress (names_in names.now) (W.told wires.new)) }
     ensures step { IfOk result (IsInStep (W.told wires.new)) }
-    ensures rule { OnOk result (rule_by client.new ≡ rule_by client.old) }
-    ensures words { OnOk result (greeting_by client.new ≡ greeting_by client.old) }
+    ensures terms { KeepsTerms result client.old client.new }
     ensures dialled { OnOk result ((W.told wires.new).tally.dials ≡ length names.now) }
     ensures taken { (W.told wires.new).tally.taken ≡ 0 }
     ensures unended { (W.told wires.new).tally.ended ≡ 0 }
@@ -534,12 +510,9 @@ fn take_turns<W: Wires, H: HeaderStore, M: Matcher>(
     ensures stopped { IfOk result (λ end. (called : List (List ℕ))
         → HoldsOver client.old progress.old called (W.told wires.old)
         → Stopped end client.new progress.new called (W.told wires.new)) }
-    ensures right { OnErr result ((called : List (List ℕ)) → HoldsOver client.old progress.old called (W.told wires.old)
-        → IsRight (rule_by client.old).mode (W.told wires.new)) }
-    ensures versions { (called : List (List ℕ)) → HoldsOver client.old progress.old called (W.told wires.old)
-        → KeepsGreeting (greeting_by client.old) (W.told wires.old) (W.told wires.new) }
-    ensures rule { OnOk result (rule_by client.new ≡ rule_by client.old) }
-    ensures words { greeting_by client.new ≡ greeting_by client.old }
+    ensures stays { (called : List (List ℕ)) → HoldsOver client.old progress.old called (W.told wires.old)
+        → StaysRight result client.old (W.told wires.old) (W.told wires.new) }
+    ensures terms { KeepsTerms result client.old client.new }
     ensures ends { IfOk result (λ end. EndsTurns end turns (W.told wires.new).tally) }
     ensures takes { TakesTurns turns
         (run_state (W.told wires.old) (W.faults wires.old) (W.script wires.old) (W.keeps wires.old) progress.old)

@@ -1,6 +1,6 @@
 //! What a run notes beside the client: how the sends have gone, who was closed, and the trace.
 ghost use Rattle.std.specs.Prelude.{◌≡◌, ℕ, ◌<◌, ◌≤◌, IfSome, IfNone, true, false, length, slice_set, slice_index_or};
-ghost use Rattle.cf_run.specs.Moments.{IsUnused, state_at, is_pending as pending_at, is_fine, trouble};
+ghost use Rattle.cf_run.specs.States.{IsUnused, state_at, is_pending as pending_at, is_fine, trouble};
 
 use crate::trace::TraceLine;
 use cf_bytes::{PLACES, PeerNo};

@@ -4,7 +4,7 @@ use Rattle.std.proofs.lemmas.Bool.{false≢true}
 use Rattle.std.specs.Int.{w64}
 use Rattle.std.specs.Prelude.{is_some, not}
 use Rattle.cf_run.specs.Names.{names_in}
-use Rattle.cf_run.proofs.Versions.{new_words}
+use Rattle.cf_run.proofs.Versions.{new_greeting}
 use Rattle.cf_answers.specs.declared.status.Status.TheVariants.{NoMemory, FileFault}
 use Rattle.cf_answers.specs.Statuses.{was_refused}
 use Rattle.cf_cli.proofs.Ends.{ends_stay, over_failed, over_recorded}
@@ -28,7 +28,7 @@ pub returns-in_default-clause-tallied : goal.returns-in_default-clause-tallied
 returns-in_default-clause-tallied g c = early_tallied_on NoMemory _ _ _ tt c.requires.fresh
 
 pub returns-in_default-clause-versions : goal.returns-in_default-clause-versions
-returns-in_default-clause-versions g c = new_words _ _ c.requires.fresh
+returns-in_default-clause-versions g c = new_greeting _ _ c.requires.fresh
 
 pub returns-in_default-clause-dialled : goal.returns-in_default-clause-dialled
 returns-in_default-clause-dialled g c = new_dialled _ _ c.requires.fresh

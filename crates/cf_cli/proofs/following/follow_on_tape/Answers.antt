@@ -5,7 +5,7 @@ use Rattle.std.specs.Int.{w64}
 use Rattle.cf_headers.specs.Counts.{CountsOnce}
 use Rattle.cf_run.specs.Names.{names_in}
 use Rattle.cf_run.specs.declared.texts.KeptTexts.{KeptTexts}
-use Rattle.cf_run.proofs.Versions.{new_words}
+use Rattle.cf_run.proofs.Versions.{new_greeting}
 use Rattle.cf_sync.specs.Fetching.{following}
 use Rattle.cf_answers.specs.declared.status.Status.TheVariants.{NoMemory, OutFault}
 use Rattle.cf_answers.specs.Statuses.{is_over}
@@ -106,7 +106,7 @@ pub returns-in_default-clause-dialled : goal.returns-in_default-clause-dialled
 returns-in_default-clause-dialled g c = new_dialled _ _ c.requires.fresh
 
 pub returns-in_default-clause-versions : goal.returns-in_default-clause-versions
-returns-in_default-clause-versions g c = new_words _ _ c.requires.fresh
+returns-in_default-clause-versions g c = new_greeting _ _ c.requires.fresh
 
 pub returns-in-Err-clause-versions : goal.returns-in-Err-clause-versions
 returns-in-Err-clause-versions g c =

@@ -8,7 +8,7 @@ use Rattle.cf_run.specs.Names.{names_in}
 use Rattle.cf_sync.specs.Fetching.{once}
 use Rattle.cf_answers.specs.declared.status.Status.TheVariants.{NoMemory, FileFault, OutFault}
 use Rattle.cf_run.proofs.Rights.{right_new}
-use Rattle.cf_run.proofs.Versions.{new_words}
+use Rattle.cf_run.proofs.Versions.{new_greeting}
 use Rattle.cf_peer.specs.declared.mode.Mode.TheVariants.{Once}
 use Rattle.cf_cli.proofs.Runs.{answered, kept_told, kept_without, unrecorded_told, stands_by, stands_unsaid, was_over}
 use Rattle.cf_cli.proofs.Plays.{all_dialled, versions_so, early_tallied, spent_tallied, unwritten_tallied, run_tallied, new_dialled, new_unfailed}
@@ -132,7 +132,7 @@ pub returns-in_default-clause-failures : goal.returns-in_default-clause-failures
 returns-in_default-clause-failures g c = new_unfailed _ _ _ c.requires.fresh
 
 pub returns-in_default-clause-versions : goal.returns-in_default-clause-versions
-returns-in_default-clause-versions g c = new_words _ _ c.requires.fresh
+returns-in_default-clause-versions g c = new_greeting _ _ c.requires.fresh
 
 pub returns-in_default-sync_over-clause-versions : goal.returns-in_default-sync_over-clause-versions
 returns-in_default-sync_over-clause-versions g c =

@@ -6,7 +6,7 @@ use Rattle.cf_wires.specs.Log.{Told}
 use Rattle.cf_wires.specs.Memory.{log_of, told_of}
 use Rattle.cf_input.specs.Sessions.{script_in}
 use Rattle.cf_offline.proofs.Counting.{counts_fine}
-use Rattle.cf_cli.proofs.Plays.{versions_so, unplayed_words, early_plays, loaded_plays, new_tape, same_told, over_watch, watch_there}
+use Rattle.cf_cli.proofs.Plays.{versions_so, unplayed_greeting, early_plays, loaded_plays, new_tape, same_told, over_watch, watch_there}
 use Rattle.cf_cli.proofs.Stays.{early_replayed_in, tape_watch_on}
 use Rattle.cf_cli.specs.Following.{TalliedOn}
 use Rattle.cf_cli.specs.Theorem.{Tallied}
@@ -71,10 +71,10 @@ returns-clause-plays g c =
     c.run_once.ensures.dialled c.run_once.ensures.tallied.whole
 
 pub returns-in-Err-clause-versions : goal.returns-in-Err-clause-versions
-returns-in-Err-clause-versions g c = unplayed_words _ _ c.requires.log
+returns-in-Err-clause-versions g c = unplayed_greeting _ _ c.requires.log
 
 pub returns-in-Err-load_session-clause-versions : goal.returns-in-Err-load_session-clause-versions
-returns-in-Err-load_session-clause-versions g c = unplayed_words _ _ c.requires.log
+returns-in-Err-load_session-clause-versions g c = unplayed_greeting _ _ c.requires.log
 
 pub returns-then-follow-clause-versions : goal.returns-then-follow-clause-versions
 returns-then-follow-clause-versions g c =

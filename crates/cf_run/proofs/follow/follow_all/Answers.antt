@@ -17,7 +17,7 @@ pub returns-clause-outcome : goal.returns-clause-outcome
 returns-clause-outcome g c =
     let t = g.W.Wires.told c.follow_turns.new.wires in
     let called = names_in c.args.names.now in
-    let rule = c.in_ok-end.ensures.rule ∙ c.in_ok-progress.ensures.rule ∙ c.in_ok-client.ensures.rule in
+    let rule = c.in_ok-end.ensures.rule ∙ c.in_ok-progress.ensures.terms.rule ∙ c.in_ok-client.ensures.rule in
     subst (λ (r : Rule). IfSome t.log (IsOutcome g.H.HeaderStore.counts r called c.in_ok-outcome.outcome)) rule
     (c.in_ok-outcome.ensures.outcome called t (c.in_ok-end.ensures.stopped called c.in_ok-progress.ensures.holds))
 
@@ -33,36 +33,36 @@ returns-in_err-client-clause-passes g c = passes_none g.W.Wires.told g.W.Wires.f
 
 pub returns-in_err-progress-clause-passes : goal.returns-in_err-progress-clause-passes
 returns-in_err-progress-clause-passes g c =
-    passes_untaken c.args.turns c.in_ok-client.ensures.words (to_z-of_z {w = w64} {z = c.args.moment} (search rules))
+    passes_untaken c.args.turns c.in_ok-client.ensures.greeting (to_z-of_z {w = w64} {z = c.args.moment} (search rules))
     c.in_err-progress.ensures.passes
 
 pub returns-in_err-end-clause-passes : goal.returns-in_err-end-clause-passes
 returns-in_err-end-clause-passes g c =
     let d = c.in_ok-progress.ensures in
-    passes_turns c.args.turns c.in_ok-client.ensures.words (to_z-of_z {w = w64} {z = c.args.moment} (search rules)) d.words d.passes
-    (c.in_err-end.ensures.versions (names_in c.args.names.now) d.holds) c.in_err-end.ensures.takes
+    passes_turns c.args.turns c.in_ok-client.ensures.greeting (to_z-of_z {w = w64} {z = c.args.moment} (search rules)) d.terms.greeting d.passes
+    (c.in_err-end.ensures.stays (names_in c.args.names.now) d.holds).versions c.in_err-end.ensures.takes
 
 pub returns-in_err-outcome-clause-passes : goal.returns-in_err-outcome-clause-passes
 returns-in_err-outcome-clause-passes g c =
     let d = c.in_ok-progress.ensures in
-    passes_turns c.args.turns c.in_ok-client.ensures.words (to_z-of_z {w = w64} {z = c.args.moment} (search rules)) d.words d.passes
-    (c.in_ok-end.ensures.versions (names_in c.args.names.now) d.holds) c.in_ok-end.ensures.takes
+    passes_turns c.args.turns c.in_ok-client.ensures.greeting (to_z-of_z {w = w64} {z = c.args.moment} (search rules)) d.terms.greeting d.passes
+    (c.in_ok-end.ensures.stays (names_in c.args.names.now) d.holds).versions c.in_ok-end.ensures.takes
 
 pub returns-clause-passes : goal.returns-clause-passes
 returns-clause-passes g c =
     let d = c.in_ok-progress.ensures in
-    passes_turns c.args.turns c.in_ok-client.ensures.words (to_z-of_z {w = w64} {z = c.args.moment} (search rules)) d.words d.passes
-    (c.in_ok-end.ensures.versions (names_in c.args.names.now) d.holds) c.in_ok-end.ensures.takes
+    passes_turns c.args.turns c.in_ok-client.ensures.greeting (to_z-of_z {w = w64} {z = c.args.moment} (search rules)) d.terms.greeting d.passes
+    (c.in_ok-end.ensures.stays (names_in c.args.names.now) d.holds).versions c.in_ok-end.ensures.takes
 
 pub returns-clause-put : goal.returns-clause-put
 returns-clause-put g c =
     let d = c.in_ok-progress.ensures in
     let e = c.in_ok-end.ensures in
-    let watch = ap (λ (r : Rule). r.watch) (d.rule ∙ c.in_ok-client.ensures.rule) in
+    let watch = ap (λ (r : Rule). r.watch) (d.terms.rule ∙ c.in_ok-client.ensures.rule) in
     record {
       put = all_told c.args.watch (g.W.Wires.told c.follow_turns.new.wires) _ _
           (e.put c.args.watch (names_in c.args.names.now) watch d.holds (d.puts c.args.watch));
-      fine = e.fine;
+      fine = e.texts.fine;
     }
 
 pub returns-in_err-client-clause-cut : goal.returns-in_err-client-clause-cut
@@ -85,29 +85,29 @@ returns-in_err-end-clause-cut g c =
     let d = c.in_ok-progress.ensures in
     let e = c.in_err-end.ensures in
     let called = names_in c.args.names.now in
-    let watch = ap (λ (r : Rule). r.watch) (d.rule ∙ c.in_ok-client.ensures.rule) in
+    let watch = ap (λ (r : Rule). r.watch) (d.terms.rule ∙ c.in_ok-client.ensures.rule) in
     rw (p.1, p.2) (gives_up _ g.T.Texts.told g.T.Texts.faults c.args.watch called
     (g.W.Wires.told c.follow_turns.new.wires) c.args.texts.now c.follow_turns.new.texts
     (e.put_some c.args.watch called watch d.holds (d.puts c.args.watch))
-    (e.takes.same.dials ∙ d.dialled ∙ sym (length-map c.args.names.now string_bytes)) (λ is. e.short (cc is)) (λ is. e.failed (cc is))))
+    (e.takes.same.dials ∙ d.dialled ∙ sym (length-map c.args.names.now string_bytes)) (λ is. e.texts.short (cc is)) (λ is. e.texts.failed (cc is))))
 
 pub returns-in_err-outcome-clause-cut : goal.returns-in_err-outcome-clause-cut
 returns-in_err-outcome-clause-cut g c =
     (let p = err_from_is_err_and c.from_residual-in_err-outcome.result c.from_residual-in_err-outcome.ensures.1 in
     let d = c.in_ok-progress.ensures in
     let e = c.in_ok-end.ensures in
-    let watch = ap (λ (r : Rule). r.watch) (d.rule ∙ c.in_ok-client.ensures.rule) in
+    let watch = ap (λ (r : Rule). r.watch) (d.terms.rule ∙ c.in_ok-client.ensures.rule) in
     let t = g.W.Wires.told c.follow_turns.new.wires in
     rw (p.1, p.2) (is_short g.T.Texts.told g.T.Texts.faults c.args.watch t c.args.texts.now c.follow_turns.new.texts
     (all_some c.args.watch t _ _ (e.put c.args.watch (names_in c.args.names.now) watch d.holds (d.puts c.args.watch)))
-    e.fine))
+    e.texts.fine))
 
 pub returns-clause-done : goal.returns-clause-done
 returns-clause-done g c = λ is. c.in_ok-end.ensures.done (sym c.in_ok-outcome.ensures.end ∙ is)
 
 pub follow_turns-requires-clause-follows : goal.follow_turns-requires-clause-follows
 follow_turns-requires-clause-follows g c = ap (λ (r : Rule). r.mode)
-    (c.in_ok-progress.ensures.rule ∙ c.in_ok-client.ensures.rule)
+    (c.in_ok-progress.ensures.terms.rule ∙ c.in_ok-client.ensures.rule)
 
 pub returns-in_err-client-clause-right : goal.returns-in_err-client-clause-right
 returns-in_err-client-clause-right g c = right_new Following (g.W.Wires.told c.args.wires.now) c.requires.wires.log
@@ -118,18 +118,18 @@ returns-in_err-progress-clause-right g c = right_by (g.W.Wires.told c.dial_first
 pub returns-in_err-end-clause-right : goal.returns-in_err-end-clause-right
 returns-in_err-end-clause-right g c =
     let d = c.in_ok-progress.ensures in
-    right_by (g.W.Wires.told c.follow_turns.new.wires) (d.rule ∙ c.in_ok-client.ensures.rule) (c.in_err-end.ensures.right (names_in c.args.names.now) d.holds)
+    right_by (g.W.Wires.told c.follow_turns.new.wires) (d.terms.rule ∙ c.in_ok-client.ensures.rule) (c.in_err-end.ensures.stays (names_in c.args.names.now) d.holds).right
 
 pub returns-in_err-outcome-clause-right : goal.returns-in_err-outcome-clause-right
 returns-in_err-outcome-clause-right g c =
     let d = c.in_ok-progress.ensures in
     let e = c.in_ok-end.ensures in
-    right_by (g.W.Wires.told c.follow_turns.new.wires) (e.rule ∙ d.rule ∙ c.in_ok-client.ensures.rule)
+    right_by (g.W.Wires.told c.follow_turns.new.wires) (e.rule ∙ d.terms.rule ∙ c.in_ok-client.ensures.rule)
     (holds_right _ (e.stopped (names_in c.args.names.now) d.holds).holds)
 
 pub returns-clause-right : goal.returns-clause-right
 returns-clause-right g c =
     let d = c.in_ok-progress.ensures in
     let e = c.in_ok-end.ensures in
-    right_by (g.W.Wires.told c.follow_turns.new.wires) (e.rule ∙ d.rule ∙ c.in_ok-client.ensures.rule)
+    right_by (g.W.Wires.told c.follow_turns.new.wires) (e.rule ∙ d.terms.rule ∙ c.in_ok-client.ensures.rule)
     (holds_right _ (e.stopped (names_in c.args.names.now) d.holds).holds)

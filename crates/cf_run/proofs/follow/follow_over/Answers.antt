@@ -7,14 +7,14 @@ use Rattle.cf_sync.proofs.Follows.{follow_theorem_of}
 use Rattle.cf_run.specs.Names.{names_in}
 use Rattle.cf_run.proofs.Passing.{leaves_wires}
 use Rattle.cf_run.proofs.Puts.{gives_finished}
-use Rattle.cf_run.proofs.Versions.{words_so}
+use Rattle.cf_run.proofs.Versions.{greeting_so}
 use Rattle.cf_run.proofs.follow.follow_over.Goals as goal
 
 pub returns : goal.returns
 returns g c =
     let all = c.follow_all-outcome.ensures in
     let end = c.finish.ensures in
-    let words = words_so _ _ c.args.moment c.args.nonce refl (to_z-of_z {w = w64} {z = c.args.moment} (search rules)) in
+    let greeting = greeting_so _ _ c.args.moment c.args.nonce refl (to_z-of_z {w = w64} {z = c.args.moment} (search rules)) in
     record {
       outcome = rw end.told all.outcome;
       theorem = rw end.told
@@ -23,7 +23,7 @@ returns g c =
           came.followed.asked)) all.outcome);
       within = rw end.told all.within;
       done = rw end.told all.done;
-      wires = leaves_wires _ _ words c.requires.wires all.passes end.told end.later end.same end.keeps;
+      wires = leaves_wires _ _ greeting c.requires.wires all.passes end.told end.later end.same end.keeps;
       right = rw end.told all.right;
       put = rw end.told all.put;
       cut = rw end.told

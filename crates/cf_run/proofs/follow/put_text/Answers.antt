@@ -2,7 +2,7 @@ use Rattle.std.proofs.Common.{List, ℕ, Err, true, false, refl, ◌∙◌, ap, 
 use Rattle.std.proofs.lemmas.Result.{err_from_is_err_and}
 use Rattle.cf_bytes.specs.Outside.{with_more}
 use Rattle.cf_run.specs.Texts.{HasBegun}
-use Rattle.cf_run.proofs.Puts.{not_put, one_put, begun_by, added_by}
+use Rattle.cf_run.proofs.Puts.{not_put, one_put, begun_by, added_by, texts_ok}
 use Rattle.cf_run.proofs.follow.put_text.Goals as goal
 
 pub returns-then-is_last-clause-put : goal.returns-then-is_last-clause-put
@@ -21,3 +21,17 @@ returns-in_err-put-clause-begun g c = (let p = err_from_is_err_and c.from_residu
     (added_by _ c.as_str.result.now before c.is_last.result false c.as_str.ensures.value c.if-is_last.false (c.is_last.ensures before is))
     (subst (λ (text : List ℕ). HasBegun text (g.T.Texts.told c.args.texts.now) (g.T.Texts.told c.put.new.self)) c.as_str-2.ensures.value c.in_err-put.ensures.begun)
     (λ none. (c.in_err-put.ensures.no_memory (ap Err none)).0)))
+
+pub returns-then-is_last-clause-texts : goal.returns-then-is_last-clause-texts
+returns-then-is_last-clause-texts g c = texts_ok refl refl
+
+pub returns-clause-texts : goal.returns-clause-texts
+returns-clause-texts g c = texts_ok c.in_ok-put.ensures.kept c.in_ok-put.ensures.same_reference
+
+pub returns-in_err-put-clause-texts : goal.returns-in_err-put-clause-texts
+returns-in_err-put-clause-texts g c = (let p = err_from_is_err_and c.from_residual.result c.from_residual.ensures.1 in rw (p.1, p.2) (record {
+  fine = tt;
+  short = λ is. (c.in_err-put.ensures.no_memory (cc is)).1;
+  failed = λ is. c.in_err-put.ensures.failed (cc is);
+  same_reference = c.in_err-put.ensures.same_reference;
+}))

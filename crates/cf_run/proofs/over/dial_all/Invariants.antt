@@ -4,7 +4,7 @@ use Rattle.cf_client.specs.Stands.{count_of, rule_by, greeting_by}
 use Rattle.cf_run.specs.Texts.{PutBefore}
 use Rattle.cf_run.specs.Versions.{KeepsGreeting}
 use Rattle.cf_run.specs.Run.{HasNames}
-use Rattle.cf_run.specs.Moments.{HoldsOver, run_state, Runs}
+use Rattle.cf_run.specs.States.{HoldsOver, run_state, Runs}
 use Rattle.cf_run.proofs.over.dial_all.Given as goal
 
 abbrev pub invariant-loop-name : goal.invariant-loop-name
@@ -17,7 +17,7 @@ invariant-loop-name g l = record {
   taken : (g.W.Wires.told l.wires).tally.taken ≡ 0;
   unended : (g.W.Wires.told l.wires).tally.ended ≡ 0;
   rule : rule_by l.client ≡ rule_by l.fn.client;
-  words : greeting_by l.client ≡ greeting_by l.fn.client;
+  greeting : greeting_by l.client ≡ greeting_by l.fn.client;
   next : count_of l.client ≡ (g.W.Wires.told l.wires).tally.dials + 1;
   runs : Runs (run_state (g.W.Wires.told l.fn.wires) (g.W.Wires.faults l.fn.wires) (g.W.Wires.script l.fn.wires) (g.W.Wires.keeps l.fn.wires) l.fn.progress) (run_state (g.W.Wires.told l.wires) (g.W.Wires.faults l.wires) (g.W.Wires.script l.wires) (g.W.Wires.keeps l.wires) l.progress);
 }

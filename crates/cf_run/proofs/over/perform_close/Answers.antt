@@ -1,6 +1,6 @@
 use Rattle.std.proofs.Common.{◌≡◌, true, false, get_or, sym, ◌∙◌}
 use Rattle.std.proofs.lemmas.Result.{err_from_is_err_and}
-use Rattle.cf_run.specs.Moments.{is_pending, state_at}
+use Rattle.cf_run.specs.States.{is_pending, state_at}
 use Rattle.cf_run.proofs.Performs.{skipped_close, closed_again, closed_on}
 use Rattle.cf_wires.specs.declared.event.Event.TheVariants.{Closed}
 use Rattle.cf_run.proofs.Versions.{entry_keeps}
@@ -25,7 +25,7 @@ returns-clause-doing g c = λ rule more called planned may doing.
     (closed_on more c.args.progress.now c.push.new.self called planned _ c.args.p c.args.cause free c.in_ok-push.ensures.items may doing)
 
 pub returns-clause-versions : goal.returns-clause-versions
-returns-clause-versions g c = λ words. entry_keeps words (Closed c.args.p) _ _ c.close.ensures.closed tt
+returns-clause-versions g c = λ greeting. entry_keeps greeting (Closed c.args.p) _ _ c.close.ensures.closed tt
 
 pub returns-in_err-push-clause-right : goal.returns-in_err-push-clause-right
 returns-in_err-push-clause-right g c = (let p = err_from_is_err_and c.from_residual.result c.from_residual.ensures.1 in rw p.1 (λ rule more called planned may doing. doing_right doing))

@@ -1,6 +1,6 @@
 use Rattle.std.proofs.Common.{◌≡◌, ◌<◌, length, Err, true, false, sym, ◌∙◌, ap, arith}
 use Rattle.std.proofs.lemmas.Result.{err_from_is_err_and}
-use Rattle.cf_run.specs.Moments.{is_pending, state_at}
+use Rattle.cf_run.specs.States.{is_pending, state_at}
 use Rattle.cf_run.proofs.Performs.{skipped_send, sent_on, failed_on, may_send}
 use Rattle.cf_wires.specs.declared.event.Event.TheVariants.{SendFailed}
 use Rattle.cf_run.proofs.Versions.{sent_keeps, entry_keeps, same_keeps}
@@ -28,16 +28,16 @@ returns-in-Err-Failed-clause-doing g c = λ rule more called planned may doing.
     (failed_on more progress called planned _ c.args.p c.args.message.now lt free may doing)
 
 pub returns-in_ok-push-in-Ok-clause-versions : goal.returns-in_ok-push-in-Ok-clause-versions
-returns-in_ok-push-in-Ok-clause-versions g c = λ words tells. sent_keeps words c.args.p c.args.message.now _ _ c.requires.sendable c.in-Ok.ensures.sent.1 tells
+returns-in_ok-push-in-Ok-clause-versions g c = λ greeting tells. sent_keeps greeting c.args.p c.args.message.now _ _ c.requires.sendable c.in-Ok.ensures.sent.1 tells
 
 pub returns-in_err-push-in-Ok-clause-versions : goal.returns-in_err-push-in-Ok-clause-versions
-returns-in_err-push-in-Ok-clause-versions g c = λ words tells. sent_keeps words c.args.p c.args.message.now _ _ c.requires.sendable c.in-Ok.ensures.sent.1 tells
+returns-in_err-push-in-Ok-clause-versions g c = λ greeting tells. sent_keeps greeting c.args.p c.args.message.now _ _ c.requires.sendable c.in-Ok.ensures.sent.1 tells
 
 pub returns-in-Err-Failed-clause-versions : goal.returns-in-Err-Failed-clause-versions
-returns-in-Err-Failed-clause-versions g c = λ words tells. entry_keeps words (SendFailed c.args.p) _ _ (c.in-Err-Failed.ensures.not_sent (ap Err c.in-Err-Failed.field-0-is)) tt
+returns-in-Err-Failed-clause-versions g c = λ greeting tells. entry_keeps greeting (SendFailed c.args.p) _ _ (c.in-Err-Failed.ensures.not_sent (ap Err c.in-Err-Failed.field-0-is)) tt
 
 pub returns-in-Err-NoMemory-clause-versions : goal.returns-in-Err-NoMemory-clause-versions
-returns-in-Err-NoMemory-clause-versions g c = λ words tells. same_keeps words _ _ (c.in-Err-NoMemory.ensures.no_memory (ap Err c.in-Err-NoMemory.field-0-is))
+returns-in-Err-NoMemory-clause-versions g c = λ greeting tells. same_keeps greeting _ _ (c.in-Err-NoMemory.ensures.no_memory (ap Err c.in-Err-NoMemory.field-0-is))
 
 pub returns-in_err-push-in-Ok-clause-right : goal.returns-in_err-push-in-Ok-clause-right
 returns-in_err-push-in-Ok-clause-right g c = (let p = err_from_is_err_and c.from_residual.result c.from_residual.ensures.1 in rw p.1 (λ rule more called planned may doing.

@@ -15,7 +15,7 @@ pub returns-clause-outcome : goal.returns-clause-outcome
 returns-clause-outcome g c =
     let t = g.W.Wires.told c.take_turns.new.wires in
     let called = names_in c.args.names.now in
-    let rule = c.in_ok-end.ensures.rule ∙ c.in_ok-progress.ensures.rule ∙ c.in_ok-client.ensures.rule in
+    let rule = c.in_ok-end.ensures.terms.rule ∙ c.in_ok-progress.ensures.terms.rule ∙ c.in_ok-client.ensures.rule in
     let stopped = c.in_ok-end.ensures.stopped called c.in_ok-progress.ensures.holds in
     subst (λ (r : Rule). IfOk c.outcome_of.result
     (λ o. IfSome t.log (IsOutcome g.H.HeaderStore.counts r called o))) rule
@@ -40,14 +40,14 @@ returns-in_err-progress-clause-passes g c =
 pub returns-in_err-end-clause-passes : goal.returns-in_err-end-clause-passes
 returns-in_err-end-clause-passes g c =
     let d = c.in_ok-progress.ensures in
-    passes_turns c.args.turns c.in_ok-client.ensures.words (to_z-of_z {w = w64} {z = c.args.moment} (search rules)) d.words d.passes
-    (c.in_err-end.ensures.versions (names_in c.args.names.now) d.holds) c.in_err-end.ensures.takes
+    passes_turns c.args.turns c.in_ok-client.ensures.words (to_z-of_z {w = w64} {z = c.args.moment} (search rules)) d.terms.greeting d.passes
+    (c.in_err-end.ensures.stays (names_in c.args.names.now) d.holds).versions c.in_err-end.ensures.takes
 
 pub returns-clause-passes : goal.returns-clause-passes
 returns-clause-passes g c =
     let d = c.in_ok-progress.ensures in
-    passes_turns c.args.turns c.in_ok-client.ensures.words (to_z-of_z {w = w64} {z = c.args.moment} (search rules)) d.words d.passes
-    (c.in_ok-end.ensures.versions (names_in c.args.names.now) d.holds) c.in_ok-end.ensures.takes
+    passes_turns c.args.turns c.in_ok-client.ensures.words (to_z-of_z {w = w64} {z = c.args.moment} (search rules)) d.terms.greeting d.passes
+    (c.in_ok-end.ensures.stays (names_in c.args.names.now) d.holds).versions c.in_ok-end.ensures.takes
 
 pub returns-in_err-client-clause-right : goal.returns-in_err-client-clause-right
 returns-in_err-client-clause-right g c = right_new Once (g.W.Wires.told c.args.wires.now) c.requires.wires.log
@@ -58,11 +58,11 @@ returns-in_err-progress-clause-right g c = right_by (g.W.Wires.told c.dial_first
 pub returns-in_err-end-clause-right : goal.returns-in_err-end-clause-right
 returns-in_err-end-clause-right g c =
     let d = c.in_ok-progress.ensures in
-    right_by (g.W.Wires.told c.take_turns.new.wires) (d.rule ∙ c.in_ok-client.ensures.rule) (c.in_err-end.ensures.right (names_in c.args.names.now) d.holds)
+    right_by (g.W.Wires.told c.take_turns.new.wires) (d.terms.rule ∙ c.in_ok-client.ensures.rule) (c.in_err-end.ensures.stays (names_in c.args.names.now) d.holds).right
 
 pub returns-clause-right : goal.returns-clause-right
 returns-clause-right g c =
     let d = c.in_ok-progress.ensures in
     let e = c.in_ok-end.ensures in
-    right_by (g.W.Wires.told c.take_turns.new.wires) (e.rule ∙ d.rule ∙ c.in_ok-client.ensures.rule)
+    right_by (g.W.Wires.told c.take_turns.new.wires) (e.terms.rule ∙ d.terms.rule ∙ c.in_ok-client.ensures.rule)
     (holds_right _ (e.stopped (names_in c.args.names.now) d.holds).holds)

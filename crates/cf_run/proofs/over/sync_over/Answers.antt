@@ -5,7 +5,7 @@ use Rattle.std.proofs.lemmas.Result.{IfOk-weaker}
 use Rattle.std.specs.Int.{w64}
 use Rattle.cf_sync.proofs.Settles.{sync_theorem_of}
 use Rattle.cf_run.proofs.Passing.{leaves_wires}
-use Rattle.cf_run.proofs.Versions.{words_so}
+use Rattle.cf_run.proofs.Versions.{greeting_so}
 use Rattle.cf_run.proofs.over.sync_over.Goals as goal
 
 pub returns-clause-outcome : goal.returns-clause-outcome
@@ -23,9 +23,9 @@ returns-clause-within g c = rw c.finish.ensures.told c.sync_all-outcome.ensures.
 
 pub returns-clause-wires : goal.returns-clause-wires
 returns-clause-wires g c =
-    let words = words_so _ _ c.args.moment c.args.nonce refl (to_z-of_z {w = w64} {z = c.args.moment} (search rules)) in
+    let greeting = greeting_so _ _ c.args.moment c.args.nonce refl (to_z-of_z {w = w64} {z = c.args.moment} (search rules)) in
     let end = c.finish.ensures in
-    leaves_wires _ _ words c.requires.wires c.sync_all-outcome.ensures.passes end.told end.later end.same end.keeps
+    leaves_wires _ _ greeting c.requires.wires c.sync_all-outcome.ensures.passes end.told end.later end.same end.keeps
 
 pub returns-clause-right : goal.returns-clause-right
 returns-clause-right g c = rw c.finish.ensures.told c.sync_all-outcome.ensures.right

@@ -10,7 +10,7 @@ use Rattle.cf_run.proofs.Versions.{entry_keeps, same_keeps}
 use Rattle.cf_run.proofs.Ticked.{ticked_taken}
 use Rattle.cf_run.proofs.Turns.{took_doing, doing_rule, took_counts, took_closed}
 use Rattle.cf_run.proofs.Courses.{told_runs, turns_then, puts_taken}
-use Rattle.cf_run.proofs.Rights.{doing_right, holds_right, right_at, right_by}
+use Rattle.cf_run.proofs.Rights.{doing_right, holds_right, right_at, right_by, terms_err, terms_on}
 use Rattle.cf_run.proofs.over.take_next.Goals as goal
 
 pub returns-clause-holds : goal.returns-clause-holds
@@ -53,43 +53,57 @@ returns-in_err-carry_out-clause-turns g c =
     c.in_ok-d.ensures.took
     c.in_err-carry_out.ensures.performs
 
-pub returns-in_err-d-clause-versions : goal.returns-in_err-d-clause-versions
-returns-in_err-d-clause-versions g c = λ called holds may. same_keeps (greeting_by c.args.client.now) _ _ c.in_err-d.ensures.err
+pub returns-in-Ended-clause-stays : goal.returns-in-Ended-clause-stays
+returns-in-Ended-clause-stays g c = λ called holds may. record { right = tt; versions = entry_keeps (greeting_by c.args.client.now) (Took c.in_ok-d.d) _ _ c.in_ok-d.ensures.took tt }
 
-pub returns-in-Ended-clause-versions : goal.returns-in-Ended-clause-versions
-returns-in-Ended-clause-versions g c = λ called holds may. entry_keeps (greeting_by c.args.client.now) (Took c.in_ok-d.d) _ _ c.in_ok-d.ensures.took tt
-
-pub returns-in_err-acts-clause-versions : goal.returns-in_err-acts-clause-versions
-returns-in_err-acts-clause-versions g c = λ called holds may. entry_keeps (greeting_by c.args.client.now) (Took c.in_ok-d.d) _ _ c.in_ok-d.ensures.took tt
-
-pub returns-clause-versions : goal.returns-clause-versions
-returns-clause-versions g c = λ called holds may.
+pub returns-clause-stays : goal.returns-clause-stays
+returns-clause-stays g c = λ called holds may.
     let acts = c.in_ok-acts.ensures in
-    take_keeps c.args.client.now c.step.new.self (g.W.Wires.told c.carry_out.new.wires) c.in_ok-d.d holds may c.note_bytes.ensures c.in_ok-d.ensures.took acts.rule acts.words c.deref.ensures.value
-    (acts.answers holds.actual holds.reflects) (acts.tells holds.actual holds.reflects) c.in_ok-carry_out.ensures.versions
+    record {
+      right = tt;
+      versions = take_keeps c.args.client.now c.step.new.self (g.W.Wires.told c.carry_out.new.wires) c.in_ok-d.d holds may c.note_bytes.ensures c.in_ok-d.ensures.took acts.rule acts.words c.deref.ensures.value
+          (acts.answers holds.actual holds.reflects) (acts.tells holds.actual holds.reflects) c.in_ok-carry_out.ensures.versions;
+    }
 
-pub returns-in_err-carry_out-clause-versions : goal.returns-in_err-carry_out-clause-versions
-returns-in_err-carry_out-clause-versions g c = λ called holds may.
-    let acts = c.in_ok-acts.ensures in
-    take_keeps c.args.client.now c.step.new.self (g.W.Wires.told c.carry_out.new.wires) c.in_ok-d.d holds may c.note_bytes.ensures c.in_ok-d.ensures.took acts.rule acts.words c.deref.ensures.value
-    (acts.answers holds.actual holds.reflects) (acts.tells holds.actual holds.reflects) c.in_err-carry_out.ensures.versions
+pub returns-in_err-d-clause-stays : goal.returns-in_err-d-clause-stays
+returns-in_err-d-clause-stays g c = (let p = err_from_is_err_and c.from_residual.result c.from_residual.ensures.1 in rw p.1 (λ called holds may. record {
+  right = right_at (rule_by c.args.client.now).mode c.in_err-d.ensures.err (holds_right c.args.client.now holds);
+  versions = same_keeps (greeting_by c.args.client.now) _ _ c.in_err-d.ensures.err;
+}))
 
-pub returns-in_err-d-clause-right : goal.returns-in_err-d-clause-right
-returns-in_err-d-clause-right g c = (let p = err_from_is_err_and c.from_residual.result c.from_residual.ensures.1 in rw p.1 (λ called holds may.
-    right_at (rule_by c.args.client.now).mode c.in_err-d.ensures.err (holds_right c.args.client.now holds)))
+pub returns-in_err-acts-clause-stays : goal.returns-in_err-acts-clause-stays
+returns-in_err-acts-clause-stays g c = (let p = err_from_is_err_and c.from_residual-in_err-acts.result c.from_residual-in_err-acts.ensures.1 in rw p.1 (λ called holds may. record {
+  right = right_at (rule_by c.args.client.now).mode c.in_ok-d.ensures.took
+      (doing_right (took_doing c.args.client.now [] c.args.progress.now called (g.W.Wires.told c.args.wires.now) c.in_ok-d.d c.note_bytes.ensures holds may));
+  versions = entry_keeps (greeting_by c.args.client.now) (Took c.in_ok-d.d) _ _ c.in_ok-d.ensures.took tt;
+}))
 
-pub returns-in_err-acts-clause-right : goal.returns-in_err-acts-clause-right
-returns-in_err-acts-clause-right g c = (let p = err_from_is_err_and c.from_residual-in_err-acts.result c.from_residual-in_err-acts.ensures.1 in rw p.1 (λ called holds may.
-    right_at (rule_by c.args.client.now).mode c.in_ok-d.ensures.took
-    (doing_right (took_doing c.args.client.now [] c.args.progress.now called (g.W.Wires.told c.args.wires.now) c.in_ok-d.d c.note_bytes.ensures holds may))))
-
-pub returns-in_err-carry_out-clause-right : goal.returns-in_err-carry_out-clause-right
-returns-in_err-carry_out-clause-right g c = (let p = err_from_is_err_and c.from_residual-in_err-carry_out.result c.from_residual-in_err-carry_out.ensures.1 in rw p.1 (λ called holds may.
+pub returns-in_err-carry_out-clause-stays : goal.returns-in_err-carry_out-clause-stays
+returns-in_err-carry_out-clause-stays g c = (let p = err_from_is_err_and c.from_residual-in_err-carry_out.result c.from_residual-in_err-carry_out.ensures.1 in rw p.1 (λ called holds may.
     let d = c.in_ok-d.d in
     let acts = c.in_ok-acts.ensures in
     let log = Took d ∷ holds.actual in
     let doing = took_doing c.args.client.now c.deref.result.now c.args.progress.now called (g.W.Wires.told c.args.wires.now) d c.note_bytes.ensures holds may in
-    right_by (g.W.Wires.told c.carry_out.new.wires) acts.rule
-    (c.in_err-carry_out.ensures.right called log
-    (subst (λ (acts : List Act). Answers c.step.new.self acts log) (sym c.deref.ensures.value) (acts.answers holds.actual holds.reflects))
-    (doing_rule acts.rule (rw c.in_ok-d.ensures.took doing)))))
+    record {
+      right = right_by (g.W.Wires.told c.carry_out.new.wires) acts.rule
+          (c.in_err-carry_out.ensures.right called log
+          (subst (λ (acts : List Act). Answers c.step.new.self acts log) (sym c.deref.ensures.value) (acts.answers holds.actual holds.reflects))
+          (doing_rule acts.rule (rw c.in_ok-d.ensures.took doing)));
+      versions = take_keeps c.args.client.now c.step.new.self (g.W.Wires.told c.carry_out.new.wires) c.in_ok-d.d holds may c.note_bytes.ensures c.in_ok-d.ensures.took acts.rule acts.words c.deref.ensures.value
+          (acts.answers holds.actual holds.reflects) (acts.tells holds.actual holds.reflects) c.in_err-carry_out.ensures.versions;
+    }))
+
+pub returns-in-Ended-clause-terms : goal.returns-in-Ended-clause-terms
+returns-in-Ended-clause-terms g c = record { rule = refl; greeting = refl }
+
+pub returns-clause-terms : goal.returns-clause-terms
+returns-clause-terms g c = terms_on c.in_ok-acts.ensures.rule c.in_ok-acts.ensures.words c.in_ok-carry_out.ensures.terms
+
+pub returns-in_err-d-clause-terms : goal.returns-in_err-d-clause-terms
+returns-in_err-d-clause-terms g c = (let p = err_from_is_err_and c.from_residual.result c.from_residual.ensures.1 in rw p.1 (record { rule = tt; greeting = refl }))
+
+pub returns-in_err-acts-clause-terms : goal.returns-in_err-acts-clause-terms
+returns-in_err-acts-clause-terms g c = (let p = err_from_is_err_and c.from_residual-in_err-acts.result c.from_residual-in_err-acts.ensures.1 in rw p.1 (record { rule = tt; greeting = c.in_err-acts.ensures.words }))
+
+pub returns-in_err-carry_out-clause-terms : goal.returns-in_err-carry_out-clause-terms
+returns-in_err-carry_out-clause-terms g c = (let p = err_from_is_err_and c.from_residual-in_err-carry_out.result c.from_residual-in_err-carry_out.ensures.1 in rw p.1 (terms_err c.in_ok-acts.ensures.words c.in_err-carry_out.ensures.terms))

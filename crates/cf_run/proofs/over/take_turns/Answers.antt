@@ -1,13 +1,13 @@
-use Rattle.std.proofs.Common.{◌≡◌, ◌+◌, Option, Some, refl, ◌∙◌, ap, subst, arith}
+use Rattle.std.proofs.Common.{Option, refl, ◌∙◌, subst, arith}
 use Rattle.std.proofs.lemmas.Result.{err_from_is_err_and}
-use Rattle.std.specs.Prelude.{IfNone, IfSome}
+use Rattle.cf_peer.specs.declared.mode.Mode.TheVariants.{Once}
 use Rattle.cf_run.specs.declared.outcome.End.{End}
-use Rattle.cf_run.specs.Moments.{Turned}
+use Rattle.cf_run.specs.States.{Turned}
 use Rattle.cf_run.proofs.Courses.{took_more, took_none, turn_ends, turns_more, turns_over, turns_used}
-use Rattle.cf_run.proofs.Turns.{stops, told_end, told_unended}
+use Rattle.cf_run.proofs.Turns.{stops}
 use Rattle.cf_client.specs.Stands.{greeting_by}
 use Rattle.cf_run.proofs.Versions.{keeps_then}
-use Rattle.cf_run.proofs.Rights.{right_by}
+use Rattle.cf_run.proofs.Rights.{stays_err, stays_on, terms_err, terms_on}
 use Rattle.cf_run.proofs.over.take_turns.Goals as goal
 
 pub returns-in-Some-clause-stopped : goal.returns-in-Some-clause-stopped
@@ -19,25 +19,32 @@ pub returns-clause-stopped : goal.returns-clause-stopped
 returns-clause-stopped g c = λ called holds.
     stops c.last_end.result c.loop-turn.client c.loop-turn.progress called (g.W.Wires.told c.loop-turn.wires) (c.loop-turn.invariant.holds called holds) c.last_end.ensures.end
 
-pub returns-in-Some-clause-versions : goal.returns-in-Some-clause-versions
-returns-in-Some-clause-versions g c = λ called holds.
-    keeps_then (greeting_by c.loop-turn.client) (greeting_by c.args.client.now) (g.W.Wires.told c.args.wires.now) (g.W.Wires.told c.loop-turn.wires) (g.W.Wires.told c.take_turn.new.wires) c.loop-turn.invariant.words (c.loop-turn.invariant.versions called holds)
-    (c.in_ok-end.ensures.versions called (c.loop-turn.invariant.holds called holds))
+pub returns-clause-stays : goal.returns-clause-stays
+returns-clause-stays g c = λ called holds. record { right = tt; versions = c.loop-turn.invariant.versions called holds }
 
-pub returns-in_err-end-clause-versions : goal.returns-in_err-end-clause-versions
-returns-in_err-end-clause-versions g c = λ called holds.
-    keeps_then (greeting_by c.loop-turn.client) (greeting_by c.args.client.now) (g.W.Wires.told c.args.wires.now) (g.W.Wires.told c.loop-turn.wires) (g.W.Wires.told c.take_turn.new.wires) c.loop-turn.invariant.words (c.loop-turn.invariant.versions called holds)
-    (c.in_err-end.ensures.versions called (c.loop-turn.invariant.holds called holds))
+pub returns-in-Some-clause-stays : goal.returns-in-Some-clause-stays
+returns-in-Some-clause-stays g c = λ called holds.
+    let turn = c.loop-turn.invariant in
+    stays_on turn.greeting (turn.versions called holds) (c.in_ok-end.ensures.stays called (turn.holds called holds))
+
+pub returns-in_err-end-clause-stays : goal.returns-in_err-end-clause-stays
+returns-in_err-end-clause-stays g c = (let p = err_from_is_err_and c.from_residual.result c.from_residual.ensures.1 in rw p.1 (λ called holds.
+    let turn = c.loop-turn.invariant in
+    stays_err turn.rule turn.greeting (turn.versions called holds) (c.in_err-end.ensures.stays called (turn.holds called holds))))
+
+pub returns-clause-terms : goal.returns-clause-terms
+returns-clause-terms g c = record { rule = c.loop-turn.invariant.rule; greeting = c.loop-turn.invariant.greeting }
+
+pub returns-in-Some-clause-terms : goal.returns-in-Some-clause-terms
+returns-in-Some-clause-terms g c = terms_on c.loop-turn.invariant.rule c.loop-turn.invariant.greeting c.in_ok-end.ensures.terms
+
+pub returns-in_err-end-clause-terms : goal.returns-in_err-end-clause-terms
+returns-in_err-end-clause-terms g c = (let p = err_from_is_err_and c.from_residual.result c.from_residual.ensures.1 in rw p.1 (terms_err c.loop-turn.invariant.greeting c.in_err-end.ensures.terms))
 
 pub returns-in-Some-clause-ends : goal.returns-in-Some-clause-ends
-returns-in-Some-clause-ends g c =
-    let e = c.in_ok-end.ensures in
-    let before = (g.W.Wires.told c.loop-turn.wires).tally in
-    let after = (g.W.Wires.told c.take_turn.new.wires).tally in
-    turn_ends c.in-Some.end c.args.turns _ before after (λ is. e.untired (c.in-Some.is ∙ ap Some is))
-    (λ is. told_end c.in_ok-end.field-0 before after (c.in-Some.is ∙ ap Some is) e.ended)
-    (subst (λ (o : Option End). IfSome o (λ e. after.taken ≡ before.taken)) c.in-Some.is e.untaken)
-    c.loop-turn.invariant.took.taken (omega arith) c.loop-turn.invariant.took.unended
+returns-in-Some-clause-ends g c = turn_ends Once c.in-Some.end c.args.turns _ (g.W.Wires.told c.loop-turn.wires).tally
+    (g.W.Wires.told c.take_turn.new.wires).tally c.in-Some.is c.in_ok-end.ensures.counts c.loop-turn.invariant.took.taken
+    (omega arith) c.loop-turn.invariant.took.unended
 
 pub returns-clause-ends : goal.returns-clause-ends
 returns-clause-ends g c = turns_used c.last_end.result c.args.turns
@@ -57,7 +64,7 @@ loop-turn-init g c = record {
   holds = λ called holds. holds;
   versions = λ called holds has. has;
   rule = refl;
-  words = refl;
+  greeting = refl;
   took = took_none _ c.requires.fresh c.requires.unended c.requires.step;
 }
 
@@ -68,15 +75,9 @@ loop-turn-preserved g c = record {
       (c.in_ok-end.ensures.turned called (c.loop-turn.invariant.holds called holds));
   versions = λ called holds.
       keeps_then (greeting_by c.loop-turn.client) (greeting_by c.args.client.now) (g.W.Wires.told c.args.wires.now) (g.W.Wires.told c.loop-turn.wires) (g.W.Wires.told c.take_turn.new.wires)
-      c.loop-turn.invariant.words (c.loop-turn.invariant.versions called holds)
-      (c.in_ok-end.ensures.versions called (c.loop-turn.invariant.holds called holds));
-  rule = c.in_ok-end.ensures.rule ∙ c.loop-turn.invariant.rule;
-  words = c.in_ok-end.ensures.words ∙ c.loop-turn.invariant.words;
-  took = took_more c.loop-turn._turn c.loop-turn.invariant.took c.in_ok-end.ensures.turns
-      (subst (λ (o : Option End). IfNone o ((g.W.Wires.told c.take_turn.new.wires).tally.taken ≡ (g.W.Wires.told c.loop-turn.wires).tally.taken + 1)) c.in_default.is c.in_ok-end.ensures.taken)
-      (told_unended c.in_ok-end.field-0 (g.W.Wires.told c.loop-turn.wires).tally (g.W.Wires.told c.take_turn.new.wires).tally c.in_default.is c.in_ok-end.ensures.ended);
+      c.loop-turn.invariant.greeting (c.loop-turn.invariant.versions called holds)
+      (c.in_ok-end.ensures.stays called (c.loop-turn.invariant.holds called holds)).versions;
+  rule = c.in_ok-end.ensures.terms.rule ∙ c.loop-turn.invariant.rule;
+  greeting = c.in_ok-end.ensures.terms.greeting ∙ c.loop-turn.invariant.greeting;
+  took = took_more c.loop-turn._turn c.loop-turn.invariant.took c.in_ok-end.ensures.turns c.in_default.is c.in_ok-end.ensures.counts;
 }
-
-pub returns-in_err-end-clause-right : goal.returns-in_err-end-clause-right
-returns-in_err-end-clause-right g c = (let p = err_from_is_err_and c.from_residual.result c.from_residual.ensures.1 in rw p.1 (λ called holds.
-    right_by (g.W.Wires.told c.take_turn.new.wires) c.loop-turn.invariant.rule (c.in_err-end.ensures.right called (c.loop-turn.invariant.holds called holds))))

@@ -1,5 +1,5 @@
 use Rattle.std.proofs.Common.{◌≡◌, ℕ, ◌<◌, false}
-use Rattle.cf_run.specs.Moments.{state_at, is_pending}
+use Rattle.cf_run.specs.States.{state_at, is_pending}
 use Rattle.cf_run.proofs.progress.Progress.next_pending.Given as goal
 
 abbrev pub invariant-loop-i : goal.invariant-loop-i

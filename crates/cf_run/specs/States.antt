@@ -1,11 +1,12 @@
 -- machine: what a run keeps from one step to the next, and what each step does of it.
-use Rattle.std.specs.Prelude.{◌≡◌, ◌⊎◌, ℕ, ◌+◌, ◌≤◌, ◌<◌, ◌==◌, ◌||◌, Bool, true, false, List, [], ◌∷◌, ◌++◌, replicate, reverse, slice_index_or, Option, Some, None}
+use Rattle.std.specs.Prelude.{◌≡◌, ◌≢◌, ◌⊎◌, ℕ, ◌+◌, ◌≤◌, ◌<◌, ◌==◌, ◌||◌, Bool, true, false, List, [], ◌∷◌, ◌++◌, replicate, reverse, slice_index_or, Option, Some, None}
 use Rattle.std.specs.List.{sum_by, list_any}
 use Rattle.cf_headers.specs.declared.store.HeaderStore.{Ghosts}
 use Rattle.cf_match.specs.declared.matcher.Matcher.{Ghosts as Judges}
 use Rattle.cf_peer.specs.declared.act.Act.{Act}
 use Rattle.cf_peer.specs.declared.act.Act.TheVariants.{Send, Close}
-use Rattle.cf_peer.specs.declared.mode.Mode.TheVariants.{Following}
+use Rattle.cf_peer.specs.declared.mode.Mode.{Mode}
+use Rattle.cf_peer.specs.declared.mode.Mode.TheVariants.{Once, Following}
 use Rattle.cf_wires.specs.Log.{Log, Told, Tally, Tells, tally_of}
 use Rattle.cf_wires.specs.Wires.{Made}
 use Rattle.cf_peer.specs.Trail.{trail, is_connected, has_failed}
@@ -142,7 +143,7 @@ pub record SameCounts (t u : Told) : Type 0 where
   pub named : (called : List (List ℕ)) → HasNames called t → HasNames called u
   pub puts : (watch texts : List (List ℕ)) → PutBefore watch texts t → PutBefore watch texts u
 
--- the run at a moment: what its wires told, how often what is outside has failed, their script, whether they keep their log, and the run's own notes
+-- the state of a run: what its wires told, how often what is outside has failed, their script, whether they keep their log, and the run's own notes
 pub record RunState : Type 0 where
   pub told : Told
   pub faults : ℕ
@@ -150,15 +151,15 @@ pub record RunState : Type 0 where
   pub keeps : Bool
   pub progress : Progress
 
--- the moment at which wires and run are so
+-- the state in which wires and run are so
 abbrev pub run_state : Told → ℕ → Option Made → Bool → Progress → RunState
 run_state told faults script keeps progress = record { told = told; faults = faults; script = script; keeps = keeps; progress = progress }
 
--- the moment of these wires, of which this is told
+-- the state of these wires, of which this is told
 abbrev pub run_at : {W : Type 0} → (W → Told) → (W → ℕ) → (W → Option Made) → (W → Bool) → W → Progress → RunState
 run_at told faults script keeps wires progress = run_state (told wires) (faults wires) (script wires) (keeps wires) progress
 
--- from one moment to a later one, whatever was answered
+-- from one state to a later one, whatever was answered
 pub record Runs (a b : RunState) : Type 0 where
   pub course : Course a.told b.told a.faults b.faults a.script b.script
   pub keeps : b.keeps ≡ a.keeps
@@ -227,10 +228,22 @@ abbrev pub Turned : {H M : Type 0} → {g : Ghosts H} {j : Judges M} → Option 
 Turned None c progress called t = HoldsOver c progress called t
 Turned (Some end) c progress called t = Stopped end c progress called t
 
--- a turn tells the end once where the run ends for it, and else not at all
-abbrev pub IsEndTold : Option End → Tally → Tally → Type 0
-IsEndTold None before after = after.ended ≡ before.ended
-IsEndTold (Some Synced) before after = after.ended ≡ before.ended
-IsEndTold (Some NoPeers) before after = after.ended ≡ before.ended
-IsEndTold (Some Tired) before after = after.ended ≡ before.ended
-IsEndTold (Some EndedFirst) before after = after.ended ≡ before.ended + 1
+-- how often a turn that ends so has told the end of the wires: for a client that ends, once where it is why the run ends, and else not at all; for one that
+-- follows once, but where no peer is left, of which nothing is said
+abbrev pub IsEndTold : Mode → End → Tally → Tally → Type 0
+IsEndTold Once Synced before after = after.ended ≡ before.ended
+IsEndTold Once NoPeers before after = after.ended ≡ before.ended
+IsEndTold Once Tired before after = after.ended ≡ before.ended
+IsEndTold Once EndedFirst before after = after.ended ≡ before.ended + 1
+IsEndTold Following Synced before after = after.ended ≡ before.ended + 1
+IsEndTold Following NoPeers before after = Unit {0}
+IsEndTold Following Tired before after = after.ended ≡ before.ended + 1
+IsEndTold Following EndedFirst before after = after.ended ≡ before.ended + 1
+
+-- what a turn counts: where the run goes on one delivery was taken, and the end wasn't told; where it ends none was, and it isn't for want of turns
+pub record CountsTurn (mode : Mode) (end : Option End) (before after : Tally) : Type 0 where
+  pub taken : end ≡ None → after.taken ≡ before.taken + 1
+  pub unended : end ≡ None → after.ended ≡ before.ended
+  pub untaken : (e : End) → end ≡ Some e → after.taken ≡ before.taken
+  pub untired : end ≢ Some Tired
+  pub ended : (e : End) → end ≡ Some e → IsEndTold mode e before after
