@@ -90,7 +90,7 @@ fn note_last(gone: &mut [bool; PLACES], entry: &Item<EntryKind>)
 {
     match &entry.kind {
         EntryKind::Last => {
-            if entry.from < PLACES {
+            if (entry.from as usize) < PLACES {
                 gone[entry.from as usize] = true;
             }
         }
