@@ -318,16 +318,8 @@ shared_low s i best = (common_low (chain_at s i) (chain_at s best.0)).0
 next_same : (before after : Seen) (i : ℕ) (best : PeerNo) → IsNext before after i best Nothing → IsSameSeen before after
 next_same before after i best next =
     let stays = next.opened.stays in
-    record {
-      watch = stays.watch;
-      chains = stays.chains;
-      claims = stays.claims;
-      table = stays.table;
-      verdicts = stays.verdicts;
-      opens = next.opens;
-      trials = aims_stay before.trials after.trials i stays.trials.paid stays.trials.told next.aims.here next.aims.others;
-      written = stays.written;
-    }
+    let trials = aims_stay before.trials after.trials i stays.trials.paid stays.trials.told next.aims.here next.aims.others in
+    record { watch = stays.watch; chains = stays.chains; claims = stays.claims; table = stays.table; verdicts = stays.verdicts; opens = next.opens; trials = trials; written = stays.written }
 
 ended_by : (mode : Mode) (place : Place) (peer : Peer) → place ≡ Here peer → is_idle_peer peer ≡ true → is_settled mode place ≡ true → heard_out mode peer ≡ true
 ended_by mode place peer here idle was = heard_by mode peer idle (settled_off mode (Here peer) (subst (λ (x : Place). is_settled mode x ≡ true) here was))
