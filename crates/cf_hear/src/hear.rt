@@ -283,7 +283,8 @@ fn hear_inv<H: HeaderStore>(
     entries: EntriesView,
 ) -> Reaction
     requires { IsSome (chains_of tracker.now p.0) }
-    ensures heard { HearsFrom (seen_of tracker.now) (seen_of tracker.now) p peer.old peer.new (Inv entries.entry) result }
+    ensures heard { HearsFrom (seen_of tracker.now) (seen_of tracker.now) p peer.old peer.new
+        (Inv entries.entry) result }
     ensures exposes { MayExpose (seen_of tracker.now) (seen_of tracker.now) p.0 peer.old result }
     ensures sendable { IsReplySendable result }
     ensures right { IsRight peer.old.request (claims_of tracker.now p.0)
