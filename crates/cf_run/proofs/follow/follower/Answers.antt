@@ -10,4 +10,4 @@ returns-clause-rule g c = c.following.ensures.rule ∙ ap (λ (r : Rule). follow
 
 pub returns-clause-greeting : goal.returns-clause-greeting
 returns-clause-greeting g c =
-    greeting_so _ _ c.args.moment c.args.nonce (c.following.ensures.words ∙ c.in_ok-client.ensures.words) (to_z-of_z {w = w64} {z = c.args.moment} (search rules))
+    greeting_so _ _ c.args.moment c.args.nonce (c.following.ensures.greeting ∙ c.in_ok-client.ensures.greeting) (to_z-of_z {w = w64} {z = c.args.moment} (search rules))

@@ -63,10 +63,10 @@ pub returns-in_err-greet-in-Ok-clause-terms : goal.returns-in_err-greet-in-Ok-cl
 returns-in_err-greet-in-Ok-clause-terms g c = (let p = err_from_is_err_and c.from_residual.result c.from_residual.ensures.1 in rw p.1 (terms_err refl c.in_err-greet-in-Ok.ensures.terms))
 
 pub returns-in_ok-not_dialled-in-Err-Failed-clause-terms : goal.returns-in_ok-not_dialled-in-Err-Failed-clause-terms
-returns-in_ok-not_dialled-in-Err-Failed-clause-terms g c = let e = c.in_ok-not_dialled-in-Err-Failed.ensures in record { rule = e.rule; greeting = e.words }
+returns-in_ok-not_dialled-in-Err-Failed-clause-terms g c = let e = c.in_ok-not_dialled-in-Err-Failed.ensures in record { rule = e.rule; greeting = e.greeting }
 
 pub returns-in_err-not_dialled-in-Err-Failed-clause-terms : goal.returns-in_err-not_dialled-in-Err-Failed-clause-terms
-returns-in_err-not_dialled-in-Err-Failed-clause-terms g c = (let p = err_from_is_err_and c.from_residual-in_err-not_dialled-in-Err-Failed.result c.from_residual-in_err-not_dialled-in-Err-Failed.ensures.1 in rw p.1 (record { rule = tt; greeting = c.in_err-not_dialled-in-Err-Failed.ensures.words }))
+returns-in_err-not_dialled-in-Err-Failed-clause-terms g c = (let p = err_from_is_err_and c.from_residual-in_err-not_dialled-in-Err-Failed.result c.from_residual-in_err-not_dialled-in-Err-Failed.ensures.1 in rw p.1 (record { rule = tt; greeting = c.in_err-not_dialled-in-Err-Failed.ensures.greeting }))
 
 pub returns-in-Err-NoMemory-clause-terms : goal.returns-in-Err-NoMemory-clause-terms
 returns-in-Err-NoMemory-clause-terms g c = record { rule = tt; greeting = refl }

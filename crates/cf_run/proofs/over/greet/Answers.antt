@@ -24,7 +24,7 @@ returns-clause-stays g c = λ called log reflects doing.
     let acts = c.in_ok-acts.ensures in
     record {
       right = tt;
-      versions = acts_keep c.args.client.now c.dialled.new.self (g.W.Wires.told c.carry_out.new.wires) acts.rule acts.words c.deref.ensures.value (acts.answers log reflects)
+      versions = acts_keep c.args.client.now c.dialled.new.self (g.W.Wires.told c.carry_out.new.wires) acts.rule acts.greeting c.deref.ensures.value (acts.answers log reflects)
           (greeting_tells (greeting_by c.args.client.now) c.args.p c.in_ok-acts.acts.items acts.greets) (doing c.deref.result.now) c.in_ok-carry_out.ensures.versions;
     }
 
@@ -39,7 +39,7 @@ returns-in_err-carry_out-clause-stays g c = (let p = err_from_is_err_and c.from_
     record {
       right = right_by (g.W.Wires.told c.carry_out.new.wires) acts.rule
           (c.in_err-carry_out.ensures.right called now answers (doing_rule acts.rule (doing c.deref.result.now)));
-      versions = acts_keep c.args.client.now c.dialled.new.self (g.W.Wires.told c.carry_out.new.wires) acts.rule acts.words c.deref.ensures.value (acts.answers log reflects)
+      versions = acts_keep c.args.client.now c.dialled.new.self (g.W.Wires.told c.carry_out.new.wires) acts.rule acts.greeting c.deref.ensures.value (acts.answers log reflects)
           (greeting_tells (greeting_by c.args.client.now) c.args.p c.in_ok-acts.acts.items acts.greets) (doing c.deref.result.now) c.in_err-carry_out.ensures.versions;
     }))
 
@@ -47,13 +47,13 @@ pub returns-clause-count : goal.returns-clause-count
 returns-clause-count g c = c.in_ok-carry_out.ensures.count ∙ c.in_ok-acts.ensures.count
 
 pub returns-clause-terms : goal.returns-clause-terms
-returns-clause-terms g c = terms_on c.in_ok-acts.ensures.rule c.in_ok-acts.ensures.words c.in_ok-carry_out.ensures.terms
+returns-clause-terms g c = terms_on c.in_ok-acts.ensures.rule c.in_ok-acts.ensures.greeting c.in_ok-carry_out.ensures.terms
 
 pub returns-in_err-acts-clause-terms : goal.returns-in_err-acts-clause-terms
-returns-in_err-acts-clause-terms g c = (let p = err_from_is_err_and c.from_residual.result c.from_residual.ensures.1 in rw p.1 (record { rule = tt; greeting = c.in_err-acts.ensures.words }))
+returns-in_err-acts-clause-terms g c = (let p = err_from_is_err_and c.from_residual.result c.from_residual.ensures.1 in rw p.1 (record { rule = tt; greeting = c.in_err-acts.ensures.greeting }))
 
 pub returns-in_err-carry_out-clause-terms : goal.returns-in_err-carry_out-clause-terms
-returns-in_err-carry_out-clause-terms g c = (let p = err_from_is_err_and c.from_residual-in_err-carry_out.result c.from_residual-in_err-carry_out.ensures.1 in rw p.1 (terms_err c.in_ok-acts.ensures.words c.in_err-carry_out.ensures.terms))
+returns-in_err-carry_out-clause-terms g c = (let p = err_from_is_err_and c.from_residual-in_err-carry_out.result c.from_residual-in_err-carry_out.ensures.1 in rw p.1 (terms_err c.in_ok-acts.ensures.greeting c.in_err-carry_out.ensures.terms))
 
 pub returns-clause-performs : goal.returns-clause-performs
 returns-clause-performs g c = c.in_ok-carry_out.ensures.performs

@@ -56,7 +56,7 @@ loop-p-preserved g c = record {
       (c.loop-p.invariant.versions called planned reflects doing has);
   count = c.in_ok-acts.ensures.count ∙ c.loop-p.invariant.count;
   rule = c.in_ok-acts.ensures.rule ∙ c.loop-p.invariant.rule;
-  greeting = c.in_ok-acts.ensures.words ∙ c.loop-p.invariant.greeting;
+  greeting = c.in_ok-acts.ensures.greeting ∙ c.loop-p.invariant.greeting;
   performs = performs_then c.loop-p.invariant.performs
       (performs_then (noted_performs _ _ _ _ c.loop-p.progress _ (ap (λ (x : Progress). x.closed) c.note_told.ensures.told) c.note_told.ensures.fewer c.loop-p.invariant.performs.runs.step) c.in_ok-perform_acts.ensures.performs);
 }
@@ -102,7 +102,7 @@ pub returns-clause-terms : goal.returns-clause-terms
 returns-clause-terms g c = record { rule = c.loop-p.invariant.rule; greeting = c.loop-p.invariant.greeting }
 
 pub returns-in_err-acts-clause-terms : goal.returns-in_err-acts-clause-terms
-returns-in_err-acts-clause-terms g c = (let p = err_from_is_err_and c.from_residual.result c.from_residual.ensures.1 in rw p.1 (record { rule = tt; greeting = c.in_err-acts.ensures.words ∙ c.loop-p.invariant.greeting }))
+returns-in_err-acts-clause-terms g c = (let p = err_from_is_err_and c.from_residual.result c.from_residual.ensures.1 in rw p.1 (record { rule = tt; greeting = c.in_err-acts.ensures.greeting ∙ c.loop-p.invariant.greeting }))
 
 pub returns-in_err-perform_acts-clause-terms : goal.returns-in_err-perform_acts-clause-terms
-returns-in_err-perform_acts-clause-terms g c = (let p = err_from_is_err_and c.from_residual-in_err-perform_acts.result c.from_residual-in_err-perform_acts.ensures.1 in rw p.1 (record { rule = tt; greeting = c.in_ok-acts.ensures.words ∙ c.loop-p.invariant.greeting }))
+returns-in_err-perform_acts-clause-terms g c = (let p = err_from_is_err_and c.from_residual-in_err-perform_acts.result c.from_residual-in_err-perform_acts.ensures.1 in rw p.1 (record { rule = tt; greeting = c.in_ok-acts.ensures.greeting ∙ c.loop-p.invariant.greeting }))

@@ -34,19 +34,19 @@ returns-in_err-client-clause-passes g c = passes_none g.W.Wires.told g.W.Wires.f
 
 pub returns-in_err-progress-clause-passes : goal.returns-in_err-progress-clause-passes
 returns-in_err-progress-clause-passes g c =
-    passes_untaken c.args.turns c.in_ok-client.ensures.words (to_z-of_z {w = w64} {z = c.args.moment} (search rules))
+    passes_untaken c.args.turns c.in_ok-client.ensures.greeting (to_z-of_z {w = w64} {z = c.args.moment} (search rules))
     c.in_err-progress.ensures.passes
 
 pub returns-in_err-end-clause-passes : goal.returns-in_err-end-clause-passes
 returns-in_err-end-clause-passes g c =
     let d = c.in_ok-progress.ensures in
-    passes_turns c.args.turns c.in_ok-client.ensures.words (to_z-of_z {w = w64} {z = c.args.moment} (search rules)) d.terms.greeting d.passes
+    passes_turns c.args.turns c.in_ok-client.ensures.greeting (to_z-of_z {w = w64} {z = c.args.moment} (search rules)) d.terms.greeting d.passes
     (c.in_err-end.ensures.stays (names_in c.args.names.now) d.holds).versions c.in_err-end.ensures.takes
 
 pub returns-clause-passes : goal.returns-clause-passes
 returns-clause-passes g c =
     let d = c.in_ok-progress.ensures in
-    passes_turns c.args.turns c.in_ok-client.ensures.words (to_z-of_z {w = w64} {z = c.args.moment} (search rules)) d.terms.greeting d.passes
+    passes_turns c.args.turns c.in_ok-client.ensures.greeting (to_z-of_z {w = w64} {z = c.args.moment} (search rules)) d.terms.greeting d.passes
     (c.in_ok-end.ensures.stays (names_in c.args.names.now) d.holds).versions c.in_ok-end.ensures.takes
 
 pub returns-in_err-client-clause-right : goal.returns-in_err-client-clause-right

@@ -61,7 +61,7 @@ returns-clause-stays g c = λ called holds may.
     let acts = c.in_ok-acts.ensures in
     record {
       right = tt;
-      versions = take_keeps c.args.client.now c.step.new.self (g.W.Wires.told c.carry_out.new.wires) c.in_ok-d.d holds may c.note_bytes.ensures c.in_ok-d.ensures.took acts.rule acts.words c.deref.ensures.value
+      versions = take_keeps c.args.client.now c.step.new.self (g.W.Wires.told c.carry_out.new.wires) c.in_ok-d.d holds may c.note_bytes.ensures c.in_ok-d.ensures.took acts.rule acts.greeting c.deref.ensures.value
           (acts.answers holds.actual holds.reflects) (acts.tells holds.actual holds.reflects) c.in_ok-carry_out.ensures.versions;
     }
 
@@ -89,7 +89,7 @@ returns-in_err-carry_out-clause-stays g c = (let p = err_from_is_err_and c.from_
           (c.in_err-carry_out.ensures.right called log
           (subst (λ (acts : List Act). Answers c.step.new.self acts log) (sym c.deref.ensures.value) (acts.answers holds.actual holds.reflects))
           (doing_rule acts.rule (rw c.in_ok-d.ensures.took doing)));
-      versions = take_keeps c.args.client.now c.step.new.self (g.W.Wires.told c.carry_out.new.wires) c.in_ok-d.d holds may c.note_bytes.ensures c.in_ok-d.ensures.took acts.rule acts.words c.deref.ensures.value
+      versions = take_keeps c.args.client.now c.step.new.self (g.W.Wires.told c.carry_out.new.wires) c.in_ok-d.d holds may c.note_bytes.ensures c.in_ok-d.ensures.took acts.rule acts.greeting c.deref.ensures.value
           (acts.answers holds.actual holds.reflects) (acts.tells holds.actual holds.reflects) c.in_err-carry_out.ensures.versions;
     }))
 
@@ -97,13 +97,13 @@ pub returns-in-Ended-clause-terms : goal.returns-in-Ended-clause-terms
 returns-in-Ended-clause-terms g c = record { rule = refl; greeting = refl }
 
 pub returns-clause-terms : goal.returns-clause-terms
-returns-clause-terms g c = terms_on c.in_ok-acts.ensures.rule c.in_ok-acts.ensures.words c.in_ok-carry_out.ensures.terms
+returns-clause-terms g c = terms_on c.in_ok-acts.ensures.rule c.in_ok-acts.ensures.greeting c.in_ok-carry_out.ensures.terms
 
 pub returns-in_err-d-clause-terms : goal.returns-in_err-d-clause-terms
 returns-in_err-d-clause-terms g c = (let p = err_from_is_err_and c.from_residual.result c.from_residual.ensures.1 in rw p.1 (record { rule = tt; greeting = refl }))
 
 pub returns-in_err-acts-clause-terms : goal.returns-in_err-acts-clause-terms
-returns-in_err-acts-clause-terms g c = (let p = err_from_is_err_and c.from_residual-in_err-acts.result c.from_residual-in_err-acts.ensures.1 in rw p.1 (record { rule = tt; greeting = c.in_err-acts.ensures.words }))
+returns-in_err-acts-clause-terms g c = (let p = err_from_is_err_and c.from_residual-in_err-acts.result c.from_residual-in_err-acts.ensures.1 in rw p.1 (record { rule = tt; greeting = c.in_err-acts.ensures.greeting }))
 
 pub returns-in_err-carry_out-clause-terms : goal.returns-in_err-carry_out-clause-terms
-returns-in_err-carry_out-clause-terms g c = (let p = err_from_is_err_and c.from_residual-in_err-carry_out.result c.from_residual-in_err-carry_out.ensures.1 in rw p.1 (terms_err c.in_ok-acts.ensures.words c.in_err-carry_out.ensures.terms))
+returns-in_err-carry_out-clause-terms g c = (let p = err_from_is_err_and c.from_residual-in_err-carry_out.result c.from_residual-in_err-carry_out.ensures.1 in rw p.1 (terms_err c.in_ok-acts.ensures.greeting c.in_err-carry_out.ensures.terms))
