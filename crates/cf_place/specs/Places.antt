@@ -154,17 +154,17 @@ pub record IsGreeting (m : Msg) : Type 0 where
   pub sendable : IsSendable m
   pub ours : IsClientVersion m
 
--- an act sends no version but one that tells these words
+-- an act sends no version but one that tells this greeting
 abbrev pub ActTells : Greeting → Act → Type 0
-ActTells words (Send p m) = TellsGreeting words m
-ActTells words (Close p cause) = Unit {0}
+ActTells greeting (Send p m) = TellsGreeting greeting m
+ActTells greeting (Close p cause) = Unit {0}
 
 -- the one act is to send the client's version, which tells this
-pub record Greets (words : Greeting) (p : PeerNo) (acts : List Act) : Type 0 where
+pub record Greets (ours : Greeting) (p : PeerNo) (acts : List Act) : Type 0 where
   pub message : Msg
   pub alone : acts ≡ Send p message ∷ []
   pub greeting : IsGreeting message
-  pub tells : TellsGreeting words message
+  pub tells : TellsGreeting ours message
 
 -- a message that can be sent and asks for headers above a chain
 pub record IsQuestion (chain : Chain) (m : Msg) : Type 0 where

@@ -97,10 +97,10 @@ pub record Greeting : Type 0 where
   pub moment : ℤ
   pub number : ℕ
 
--- a version tells these words; of any other message nothing is said
+-- a version tells this greeting; of any other message nothing is said
 abbrev pub TellsGreeting : Greeting → Msg → Type 0
-TellsGreeting words (Version version services time to from nonce agent height relay) = (time ≡ words.moment) × (nonce ≡ words.number)
-TellsGreeting words m = Unit {0}
+TellsGreeting greeting (Version version services time to from nonce agent height relay) = (time ≡ greeting.moment) × (nonce ≡ greeting.number)
+TellsGreeting greeting m = Unit {0}
 
 -- what an end says of a peer's trail: connected with its handshake over, connected with its handshake open, or how it was lost
 abbrev pub EndTells : PeerEnd → Trail → Type 0
