@@ -92,15 +92,15 @@ def why_not_built():
     return ""
 
 
-def at_once():
-    """How many crates are proved beside each other: one for each processor, and for each 3 GB of memory that are free."""
+def at_once(memory=3_000_000):
+    """How many crates are proved beside each other: one for each processor, and for each 3 GB of memory that are free, or so many kilobytes."""
     processors = len(os.sched_getaffinity(0))
     try:
         with open("/proc/meminfo", encoding="ascii") as lines:
             free = next(int(line.split()[1]) for line in lines if line.startswith("MemAvailable:"))
     except (OSError, StopIteration):
         return 1
-    return max(1, min(processors, free // 3_000_000))
+    return max(1, min(processors, free // memory))
 
 
 def last_times():
