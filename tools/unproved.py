@@ -222,7 +222,7 @@ def make_fast(sum_of_all):
 
 
 def work_behind():
-    os.nice(19)
+    os.nice(10)
     end_by_signals()
     with locked("behind") as is_held:
         if is_held:
