@@ -1,7 +1,7 @@
 """The unproved program that `./cf` runs where none is proved. It is kept below .build, under the sum of the sources and the kit that it is of.
 
-Each state of the sources has two. The quick one is compiled with no optimisation, while its caller waits. The fast one is compiled behind the calls, from the
-same module, by this file run as a program. It then takes the place of the quick one.
+Each state of the sources has two. The quick one is compiled with no optimisation, while its caller waits. The fast one is compiled behind the calls,
+from the same module, by this file run as a program. It then takes the place of the quick one.
 """
 import contextlib
 import errno
@@ -59,7 +59,7 @@ def locked(name, waits=None):
 
 
 def kit_text():
-    """What `rt version` tells, which is kept for the `rt` that told it. Where no `rt` is on the path, it is the text of the one that was there last."""
+    """What `rt version` tells, kept for the `rt` that told it. Where no `rt` is on the path, it is the text of the one that was there last."""
     file, kept = os.path.join(FOLDER, "kit"), None
     with contextlib.suppress(OSError, ValueError), open(file, encoding="utf-8") as found:
         kept = json.load(found)
@@ -105,7 +105,7 @@ def remove(path):
 
 
 def remove_others(sum_of_all):
-    """Removes what other states of the sources left, and what a call left that was killed. A compiler behind the calls ends when its module is gone."""
+    """Removes what other states of the sources left, and calls that were killed. A compiler behind the calls ends when its module is gone."""
     for name in os.listdir(FOLDER):
         of = OF_A_SUM.fullmatch(name)
         if name.startswith("making-") or of and of[1] != sum_of_all:
