@@ -154,10 +154,11 @@ def kept(tell, begins):
         if not crates.has_rt():
             raise native.NotMade("the toolchain's rt is not on the path")
         with locked("lock", waits=lambda: tell("another call makes the program, and this one waits for it")):
+            sum_of_all = sum_of_sources()
             found = standing(sum_of_all)
             if not found:
                 if shutil.disk_usage(FOLDER).free < ROOM:
-                    raise OSError(errno.ENOSPC, os.strerror(errno.ENOSPC))
+                    raise OSError(errno.ENOSPC, f"less than {ROOM >> 20} MiB are free")
                 begins()
                 found = standing(make_quick(sum_of_all, tell))
             return found
