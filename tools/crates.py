@@ -49,12 +49,17 @@ def needed(name="cf"):
     return found
 
 
-def sources(name):
+def sources(name, parts=("src", "specs", "proofs")):
     """The files of a crate that a proof reads."""
-    for part in ("src", "specs", "proofs"):
+    for part in parts:
         for folder, _, files in os.walk(os.path.join(TOP, "crates", name, part)):
             for file in files:
                 yield os.path.join(folder, file)
+
+
+def code(name):
+    """The files of a crate that the program is made of."""
+    return sources(name, ("src",))
 
 
 def kept():
