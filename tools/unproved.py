@@ -178,10 +178,13 @@ def kept(tell, begins):
 
 def once(tell):
     """A program that is made for one call: an open file whose name is gone."""
-    with tempfile.TemporaryDirectory(prefix="cf-") as folder:
-        program = os.path.join(folder, "program")
-        native.make("cf", program, "-O0", tell=tell)
-        return os.open(program, os.O_RDONLY)
+    try:
+        with tempfile.TemporaryDirectory(prefix="cf-") as folder:
+            program = os.path.join(folder, "program")
+            native.make("cf", program, "-O0", tell=tell)
+            return os.open(program, os.O_RDONLY)
+    except OSError as error:
+        raise native.NotMade(f"the folder for temporary files can't be written to: {error.strerror}") from error
 
 
 # The fast program
