@@ -76,6 +76,7 @@ def kit_text():
             with open(new, "w", encoding="utf-8") as out:
                 json.dump(kept, out)
             os.replace(new, file)
+        remove(new)
     return kept["text"]
 
 
@@ -97,7 +98,7 @@ def sum_of_sources():
 
 
 def remove(path):
-    with contextlib.suppress(FileNotFoundError):
+    with contextlib.suppress(OSError):
         if os.path.isdir(path):
             shutil.rmtree(path, ignore_errors=True)
         else:
@@ -120,20 +121,30 @@ def sync_folder():
         os.close(folder)
 
 
+def need_room():
+    if shutil.disk_usage(FOLDER).free < ROOM:
+        raise OSError(errno.ENOSPC, f"less than {ROOM >> 20} MiB are free")
+
+
 def make_quick(sum_of_all, tell):
     """Makes the quick program of the sources as they stand, and keeps the module for the fast one. Gives the sum that it is of."""
     remove_others(sum_of_all)
     while True:
-        with tempfile.TemporaryDirectory(prefix="making-", dir=FOLDER) as folder:
-            module, program = os.path.join(folder, "module"), os.path.join(folder, "program")
-            native.lower("cf", module, tell=tell)
-            before, sum_of_all = sum_of_all, sum_of_sources()
-            if before != sum_of_all:
-                tell("a source has changed meanwhile, so it begins anew")
-                continue
-            native.compile_to(program, module, "-O0", tell)
-            for made, kind in ((f"{module}.words", "module.words"), (module, "module"), (program, "quick")):
-                os.replace(made, place(sum_of_all, kind))
+        try:
+            with tempfile.TemporaryDirectory(prefix="making-", dir=FOLDER) as folder:
+                module, program = os.path.join(folder, "module"), os.path.join(folder, "program")
+                native.lower("cf", module, tell=tell)
+                before, sum_of_all = sum_of_all, sum_of_sources()
+                if before != sum_of_all:
+                    tell("a source has changed meanwhile, so it begins anew")
+                    continue
+                native.compile_to(program, module, "-O0", tell)
+                for made, kind in ((f"{module}.words", "module.words"), (module, "module"), (program, "quick")):
+                    os.replace(made, place(sum_of_all, kind))
+        except native.NotMade:
+            # The tools don't always tell that the disk is full.
+            need_room()
+            raise
         sync_folder()
         return sum_of_all
 
@@ -157,8 +168,7 @@ def kept(tell, begins):
             sum_of_all = sum_of_sources()
             found = standing(sum_of_all)
             if not found:
-                if shutil.disk_usage(FOLDER).free < ROOM:
-                    raise OSError(errno.ENOSPC, f"less than {ROOM >> 20} MiB are free")
+                need_room()
                 begins()
                 found = standing(make_quick(sum_of_all, tell))
             return found
@@ -168,10 +178,13 @@ def kept(tell, begins):
 
 def once(tell):
     """A program that is made for one call: an open file whose name is gone."""
-    with tempfile.TemporaryDirectory(prefix="cf-") as folder:
-        program = os.path.join(folder, "program")
-        native.make("cf", program, "-O0", tell=tell)
-        return os.open(program, os.O_RDONLY)
+    try:
+        with tempfile.TemporaryDirectory(prefix="cf-") as folder:
+            program = os.path.join(folder, "program")
+            native.make("cf", program, "-O0", tell=tell)
+            return os.open(program, os.O_RDONLY)
+    except OSError as error:
+        raise native.NotMade(f"the folder for temporary files can't be written to: {error.strerror}") from error
 
 
 # The fast program
