@@ -167,8 +167,8 @@ def measured():
 
 
 def proof_seconds():
-    """What the proof of each crate takes of a processor, with linking: what was measured here from nothing, or what others measured or is guessed for its
-    lines, by as much more or less as the crates that were measured here took."""
+    """What the proof of each crate takes of a processor, with linking: what was measured here from nothing. For others it is what was noted or is guessed for
+    their lines, by as much more or less as those that were measured here took."""
     told = costs()
     guessed = {name: told[name][0] if name in told else guess(name) for name in below()}
     here = {name: kinds["proof"] + kinds.get("linking", 0) for name, kinds in measured().items() if name in guessed}

@@ -1,10 +1,10 @@
 """Proves crates beside each other and links the program, each in a lane: a copy of the crates' files.
 
-`rt` works in a crate's folder, and in those of all crates below it, while no other `rt` does. Two crates over a common one are so proved beside each other
-only in two copies. What was proved in one lane is a library that every other lane gets by links as soon as it is done, and the checkout too. What a check
-kept is moved to the lane in which its crate is proved next; where no lane has any, `rt` looks for what other copies on this machine kept.
+`rt` works in a crate's folder, and in those of all crates below it, while no other `rt` does. So two crates over a common one are proved beside each other
+only in two copies. A library that was proved in one lane goes to every other one and to the checkout, by links, as soon as it is done. What a check kept is
+moved to the lane in which its crate is proved next. Where no lane has any, `rt` looks for what other copies on this machine kept.
 
-The lanes are kept for the next build. They lie within `.git`, where there is one, since `rt ci` wants no other copy of a crate in the checkout.
+The lanes stay for the next build. They lie within `.git`, where there is one, since `rt ci` wants no other copy of a crate in the checkout.
 """
 import contextlib
 import fcntl
@@ -212,6 +212,9 @@ class Build:
 
     def prepare(self):
         """Makes the lanes have the files as they stand, and each library that was proved here."""
+        for name in os.listdir(BUILD):
+            if name.startswith("log."):
+                os.remove(os.path.join(BUILD, name))
         first, others = self.lanes[0], self.lanes[1:]
         follow(TOP, first)
         for lane in others:
@@ -285,7 +288,7 @@ class Build:
         del self.running[check.name]
         self.looks = 0
         said, status, name = check.told(), check.run.returncode, check.name
-        self.log.write(f"== {name}\n{said}")
+        self.log.write(f"== {name}\n{said}dev: {check.jobs} jobs, {check.seconds():.0f} seconds, lane {os.path.basename(check.lane)}\n")
         self.log.flush()
         self.over_kept.update(OVER_KEPT.findall(said))
         if status in KILLED and name not in self.alone:
