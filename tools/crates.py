@@ -1,4 +1,5 @@
 """The crates of this repository: how they stand on one another, whether the program that is built is of these sources, and what proving takes."""
+import contextlib
 import os
 import shutil
 
@@ -7,8 +8,14 @@ BUILD = os.path.join(TOP, ".build")
 PROGRAM = os.path.join(BUILD, "cf")
 TIMES = os.path.join(BUILD, "times")
 
-# What a proof takes of a processor where nothing has been measured here: to begin with, for each line of code, and for a program to be linked.
-BEGINNING, LINE, LINKING = 10, 0.2, 200
+# What each crate's proof took where it was last measured as a whole: processor seconds, and the memory of its largest process in GB.
+COSTS = os.path.join(TOP, "tools", "costs.txt")
+# What a proof takes of a processor where nothing has been measured: to begin with, for each line of code and of definitions and proofs, and for a program
+# to be linked; and of memory in GB, to begin with, for each line of code, and for each of the crates below.
+BEGINNING, LINE, OTHER_LINE, LINKING = 10, 0.08, 0.02, 100
+FIRST_GB, LINE_GB, BELOW_GB = 0.7, 0.0008, 0.00015
+# How many times faster a check is with so many jobs, from one on.
+FASTER = (1, 1.6, 2.0, 2.3)
 
 
 def below():
@@ -97,15 +104,25 @@ def why_not_built():
     return ""
 
 
-def at_once(memory=3_000_000):
-    """How many crates are proved beside each other: one for each processor, and for each 3 GB of memory that are free, or so many kilobytes."""
-    processors = len(os.sched_getaffinity(0))
-    try:
+def free_memory():
+    """The memory in GB that no process has, within the limit of the control group."""
+    free = []
+    with contextlib.suppress(OSError, StopIteration):
         with open("/proc/meminfo", encoding="ascii") as lines:
-            free = next(int(line.split()[1]) for line in lines if line.startswith("MemAvailable:"))
-    except (OSError, StopIteration):
-        return 1
-    return max(1, min(processors, free // memory))
+            free.append(next(int(line.split()[1]) * 1024 for line in lines if line.startswith("MemAvailable:")))
+    with contextlib.suppress(OSError, StopIteration, ValueError):
+        with open("/sys/fs/cgroup/memory.max", encoding="ascii") as limit, open("/sys/fs/cgroup/memory.stat", encoding="ascii") as lines:
+            free.append(int(limit.read()) - next(int(line.split()[1]) for line in lines if line.startswith("anon ")))
+    return min(free, default=0) / 1e9
+
+
+def at_once(memory=3):
+    """How many crates are worked on beside each other: at most one for each processor, and for each 3 GB of memory that are free, or so many GB."""
+    return max(1, min(len(os.sched_getaffinity(0)), int(free_memory() / memory)))
+
+
+def span(seconds):
+    return f"{seconds / 60:.0f} minutes" if seconds >= 90 else f"{seconds:.0f} seconds"
 
 
 def last_times():
@@ -121,42 +138,134 @@ def last_times():
     return found
 
 
+def costs():
+    """The seconds and the GB of the proof of each crate, as they were measured when this was written."""
+    found = {}
+    try:
+        with open(COSTS, encoding="utf-8") as lines:
+            for line in lines:
+                name, seconds, memory = line.partition("#")[0].split() or ("", 0, 0)
+                found[name] = float(seconds), float(memory)
+    except (FileNotFoundError, ValueError):
+        pass
+    return found
+
+
+def note_costs():
+    """Writes what was measured here, beside what was noted before of other crates."""
+    seconds, memory, known = proof_seconds(), proof_memory(), {**costs(), **measured()}
+    with open(COSTS, "w", encoding="utf-8") as out:
+        out.write("# What each crate's whole proof took: processor seconds, and the memory of its largest process in GB.\n")
+        for name in below():
+            if name in known:
+                out.write(f"{name} {seconds[name]:.0f} {memory[name]:.1f}\n")
+
+
+def measured():
+    """Of each crate whose whole proof was measured here the seconds and the memory in GB, by kind: the last ones of a build, or else the most of others."""
+    found = {}
+    for (command, crate, kind), (much, _) in last_times().items():
+        kinds = found.setdefault((crate, command == "build"), {})
+        kinds[kind] = max(much, kinds.get(kind, 0))
+    whole = {key: kinds for key, kinds in found.items() if "proof" in kinds}
+    return {crate: kinds for (crate, of_build), kinds in sorted(whole.items())}
+
+
 def proof_seconds():
-    """What the proof of each crate takes of a processor, with linking: the most that was measured here from nothing, or what is guessed for its lines."""
-    most = {}
-    for (_, crate, kind), (seconds, _) in last_times().items():
-        if kind in ("proof", "linking"):
-            kinds = most.setdefault(crate, {})
-            kinds[kind] = max(seconds, kinds.get(kind, 0))
-    return {name: sum(most[name].values()) if "proof" in most.get(name, {}) else guess(name) for name in below()}
+    """What the proof of each crate takes of a processor, with linking: what was measured here from nothing. For others it is what was noted or is guessed for
+    their lines, by as much more or less as those that were measured here took."""
+    told = costs()
+    guessed = {name: told[name][0] if name in told else guess(name) for name in below()}
+    here = {name: kinds["proof"] + kinds.get("linking", 0) for name, kinds in measured().items() if name in guessed}
+    pace = sum(here.values()) / sum(guessed[name] for name in here) if here else 1
+    return {name: here.get(name, seconds * pace) for name, seconds in guessed.items()}
+
+
+def proof_memory():
+    """The memory in GB of the largest process of each crate's proof: what was measured here, or what others measured or is guessed."""
+    told, here = costs(), {name: kinds["memory"] / 1000 for name, kinds in measured().items() if "memory" in kinds}
+    return {name: here.get(name) or (told[name][1] if name in told else guess_memory(name)) for name in below()}
+
+
+def lines_of(name):
+    """How many lines a crate has, of code, and of definitions and proofs, but for empty ones."""
+    lines = {".rt": 0, ".antt": 0}
+    for file in sources(name):
+        ending = os.path.splitext(file)[1]
+        if ending in lines:
+            with open(file, "rb") as text:
+                lines[ending] += sum(1 for line in text if line.strip())
+    return lines[".rt"], lines[".antt"]
+
+
+def is_program(name):
+    return os.path.exists(os.path.join(TOP, "crates", name, "src", "main.rt"))
 
 
 def guess(name):
-    code = [file for file in sources(name) if file.endswith(".rt")]
-    lines = 0
-    for file in code:
-        with open(file, "rb") as text:
-            lines += sum(1 for line in text if line.strip())
-    is_program = any(os.path.basename(file) == "main.rt" for file in code)
-    return BEGINNING + LINE * lines + LINKING * is_program
+    code, other = lines_of(name)
+    return BEGINNING + LINE * code + OTHER_LINE * other + LINKING * is_program(name)
 
 
-def seconds_left(names, processors):
-    """How long the proofs of these crates take so many processors, each crate after those below it, the longest way up first."""
-    seconds, libraries, way = proof_seconds(), below(), {}
+def guess_memory(name):
+    return FIRST_GB + LINE_GB * lines_of(name)[0] + BELOW_GB * sum(lines_of(it)[0] for it in needed(name)[:-1])
+
+
+def ways_up(names, seconds):
+    """The seconds of the longest way from each crate up, with its own. A crate stands after those below it in that way."""
+    libraries, found = below(), {}
 
     def way_up(name):
-        if name not in way:
-            way[name] = seconds[name] + max((way_up(it) for it in names if name in libraries[it]), default=0)
-        return way[name]
+        if name not in found:
+            found[name] = seconds[name] + max((way_up(it) for it in names if name in libraries[it]), default=0)
+        return found[name]
 
-    waiting = sorted(names, key=way_up, reverse=True)
-    now, ends = 0.0, {}
+    for name in names:
+        way_up(name)
+    return found
+
+
+def longest_chain(seconds):
+    """The crates of the longest chain, from the lowest up, and its seconds."""
+    names, libraries = list(seconds), below()
+    ways, chain = ways_up(names, seconds), []
+    above = names
+    while above:
+        chain.append(max(above, key=ways.get))
+        above = [it for it in names if chain[-1] in libraries[it]]
+    return chain, ways[chain[0]] if chain else 0
+
+
+def begun(ready, running, processors, ways, fits=lambda _name, jobs: jobs):
+    """Which of the crates that are ready, the longest way up first, are begun beside those that run, each with its jobs. What no other crate waits for of the
+    processors goes to the first. Where its way up is longer than that of all that run, it gets half of them at least. `fits` lowers the jobs to those that
+    memory has room for, or to 0."""
+    found, idle = {}, processors - sum(running.values())
+    for at, name in enumerate(ready):
+        jobs = idle - (len(ready) - at - 1)
+        if at == 0 and all(ways[it] < ways[name] for it in running):
+            jobs = max(jobs, processors // 2)
+        jobs = fits(name, max(1, min(len(FASTER), jobs))) if idle > 0 else 0
+        if jobs:
+            found[name] = jobs
+            idle -= jobs
+    return found
+
+
+def seconds_left(names, processors, running=None, seconds=None):
+    """How long the proofs of these crates take so many processors, each crate after those below it, the longest way up first. Of the crates in `running` it
+    is told how long they have run, with how many jobs."""
+    seconds, libraries = seconds or proof_seconds(), below()
+    ways, ends, now = ways_up(names, seconds), {}, 0.0
+    jobs = {name: count for name, (_, count) in (running or {}).items()}
+    for name, (spent, count) in (running or {}).items():
+        ends[name] = max(seconds[name] / FASTER[count - 1] - spent, 0.1 * seconds[name])
+    waiting = sorted((name for name in names if name not in ends), key=ways.get, reverse=True)
     while waiting or ends:
         ready = [name for name in waiting if not any(it in waiting or it in ends for it in libraries[name])]
-        for name in ready[: processors - len(ends)]:
+        for name, count in begun(ready, {it: jobs[it] for it in ends}, processors, ways).items():
             waiting.remove(name)
-            ends[name] = now + seconds[name]
+            jobs[name], ends[name] = count, now + seconds[name] / FASTER[count - 1]
         first = min(ends, key=ends.get)
         now = ends.pop(first)
     return now

@@ -20,6 +20,14 @@ def read(file):
         return found.read().decode("utf-8", "replace")
 
 
+def megabytes(file, name):
+    """What a line of a file of /proc says of memory, in MB."""
+    try:
+        return next((int(line.split()[1]) * 1024 / 1e6 for line in read(file).splitlines() if line.startswith(f"{name}:")), 0)
+    except OSError:
+        return 0
+
+
 class Sampler(threading.Thread):
     """Looks at the processes below one, until it is told to stop."""
 
@@ -29,6 +37,8 @@ class Sampler(threading.Thread):
         self.kept = {name for name in os.listdir(os.path.join(TOP, "crates")) if os.path.isdir(os.path.join(TOP, "crates", name, "out", "incremental"))}
         self.known = {}
         self.spent = {}
+        # The processes of each crate's proof that run, and the most memory in MB that one has had.
+        self.provers, self.peaks = {}, {}
         self.ends = threading.Event()
 
     def run(self):
@@ -45,8 +55,13 @@ class Sampler(threading.Thread):
                     continue
                 # The parent, the ticks of the process and of the system for it, and when it was started.
                 found[int(name)] = int(rest[1]), (int(rest[11]) + int(rest[12])) / TICK, rest[19]
+        provers = {}
         for pid in sorted(found):
-            self.note(pid, found)
+            crate = self.note(pid, found)
+            if crate and self.known.get((pid, found[pid][2]), ("", ""))[1] == "proof":
+                provers.setdefault(crate, []).append(pid)
+                self.peaks[crate] = max(megabytes(f"/proc/{pid}/status", "VmHWM"), self.peaks.get(crate, 0))
+        self.provers = provers
 
     def note(self, pid, found):
         """Notes what a process has spent, where it is below the first one. Gives its crate, or nothing where it isn't below."""
@@ -80,6 +95,18 @@ class Sampler(threading.Thread):
             return crate, "tests"
         return crate, "proof"
 
+    def held(self, crate):
+        """The memory in GB that the processes of a crate's proof have now. What several of them share counts once."""
+        return sum(megabytes(f"/proc/{pid}/smaps_rollup", "Pss") for pid in self.provers.get(crate, ())) / 1000
+
+    def by_crate(self):
+        """The seconds by crate."""
+        found = {}
+        for key, seconds in list(self.spent.items()):
+            crate = self.known[key][0]
+            found[crate] = found.get(crate, 0) + seconds
+        return found
+
     def seconds(self, is_whole):
         """The seconds by crate and kind. A proof that isn't whole is of a kind of its own."""
         found = {}
@@ -91,11 +118,12 @@ class Sampler(threading.Thread):
         return found
 
 
-def note_times(command, seconds):
-    """Puts the seconds in the place of the last ones of that command, crate and kind."""
+def note_times(command, seconds, peaks):
+    """Puts the seconds in the place of the last ones of that command, crate and kind. The memory of a whole proof, in MB, is noted so too."""
     rows = last_times()
     day = datetime.date.today().isoformat()
     rows.update({(command, crate, kind): (spent, day) for (crate, kind), spent in seconds.items() if spent >= 1})
+    rows.update({(command, crate, "memory"): (peak, day) for crate, peak in peaks.items() if seconds.get((crate, "proof"), 0) >= 1})
     new = f"{TIMES}.{os.getpid()}"
     try:
         os.makedirs(BUILD, exist_ok=True)
@@ -138,5 +166,5 @@ def sampled(command, words, folder, is_whole=over_kept, tell=None):
         finally:
             sampler.ends.set()
             sampler.join()
-            note_times(command, sampler.seconds(is_whole))
+            note_times(command, sampler.seconds(is_whole), sampler.peaks)
     return status

@@ -1,7 +1,6 @@
 """The rows and tests of this repository, run by native programs of the sources, which are not proved."""
 import contextlib
 import fcntl
-import hashlib
 import os
 import re
 import shutil
@@ -11,7 +10,8 @@ import tempfile
 from concurrent.futures import ThreadPoolExecutor
 
 import native
-from crates import BUILD, TOP, at_once, below, needed, sources
+import unproved
+from crates import BUILD, TOP, at_once, below, code
 
 # How long one program may take, in seconds. The gate gives a proved one 120.
 SECONDS = 600
@@ -20,8 +20,8 @@ SHOWN = 160
 # What the runner of tests says of each of them.
 TEST = re.compile(r"test (\S+) \.\.\. (\w+)")
 COUNTED = re.compile(r"(\d+) passed, (\d+) failed")
-# What compiling a program takes of memory, in kilobytes.
-MEMORY = 4_000_000
+# What compiling a program takes of memory, in GB.
+MEMORY = 4
 # With more bytes of rows than these it pays to spend more on compiling: -O1 takes three times what -O0 takes, and its program a sixtieth.
 MANY = 100_000
 PROGRAMS = os.path.join(BUILD, "test")
@@ -49,11 +49,10 @@ def has_rows(crate):
 
 def has_tests(crate):
     """Whether a file of its code has a test function."""
-    for file in sources(crate):
-        if file.endswith(".rt"):
-            with open(file, "rb") as text:
-                if re.search(rb"(?m)^\s*#\[test\]", text.read()):
-                    return True
+    for file in code(crate):
+        with open(file, "rb") as text:
+            if re.search(rb"(?m)^\s*#\[test\]", text.read()):
+                return True
     return False
 
 
@@ -65,23 +64,12 @@ def crates_with_some():
 # the programs
 
 
-def stamp_of(crate):
-    """What a program is made of: a checksum of the kit's identity, and of the code of a crate and of all that it stands on."""
-    total = hashlib.sha256(subprocess.run(["rt", "version"], stdout=subprocess.PIPE, check=True).stdout)
-    for name in needed(crate):
-        total.update(" ".join([name, *below()[name]]).encode())
-        for file in sorted(it for it in sources(name) if it.endswith(".rt")):
-            with open(file, "rb") as text:
-                total.update(os.fsencode(os.path.relpath(file, TOP)) + b"\0" + hashlib.sha256(text.read()).digest())
-    return total.hexdigest()
-
-
 def program_of(crate, tell):
     """The native program of a crate, which is made where there is none of the sources as they stand. Its name tells of which sources it is."""
     os.makedirs(PROGRAMS, exist_ok=True)
     with open(os.path.join(PROGRAMS, f"{crate}.lock"), "wb") as lock:
         fcntl.flock(lock, fcntl.LOCK_EX)
-        program = os.path.join(PROGRAMS, f"{crate}-{stamp_of(crate)}")
+        program = os.path.join(PROGRAMS, f"{crate}-{unproved.sum_of_sources(crate)}")
         if not os.path.exists(program):
             for file in os.listdir(PROGRAMS):
                 if file.startswith(f"{crate}-"):

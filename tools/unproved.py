@@ -80,13 +80,13 @@ def kit_text():
     return kept["text"]
 
 
-def sum_of_sources():
-    """A sum of all that the program is made of: the code of its crates, which crates they are, and the kit. Nothing where there is no kit."""
+def sum_of_sources(crate="cf"):
+    """A sum of all that a program is made of: the code of its crates, which crates they are, and the kit. Nothing where there is no kit."""
     kit = kit_text()
     if kit is None:
         return None
     found = hashlib.sha256(kit.encode())
-    files = [file for name in crates.needed() for file in crates.code(name)]
+    files = [file for name in crates.needed(crate) for file in crates.code(name)]
     for file in [os.path.join(crates.TOP, "crates.txt"), *sorted(files)]:
         with open(file, "rb") as source:
             text = source.read()
