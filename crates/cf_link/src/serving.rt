@@ -50,8 +50,8 @@ where
     line.push_over(of, Ended::new(again, task.run()));
 }
 
-// Starts a task whose start was refused once. What is over is joined, and after a pause the start is tried again, until
-// no other one runs: then it is run in place.
+// Starts a task whose start was refused once. What is over is joined, and after a pause the start is tried again, as
+// often as it is refused while another one runs. Where it is refused and none runs, the task is run in place.
 fn start_later<L: Link, S: Service + Send + 'static, F: Flag, K: Spawner>(
     alloc: Global,
     link: &mut L,
@@ -78,10 +78,6 @@ where
     let mut next = task;
     for _ in 0..u64::MAX {
         line.sweep(spawner);
-        if line.is_idle() {
-            run_alone(spawner, line, next);
-            return;
-        }
         link.pause();
         let of = Snapshot::of(&next);
         match spawner.start(alloc, next) {
@@ -89,7 +85,13 @@ where
                 line.push(of, running, flag);
                 return;
             }
-            Err(task) => next = task,
+            Err(task) => {
+                if line.is_idle() {
+                    run_alone(spawner, line, task);
+                    return;
+                }
+                next = task;
+            }
         }
     }
     run_alone(spawner, line, next);
@@ -311,9 +313,9 @@ where
     Ok(())
 }
 
-/// Accepts n connections, serves each in a task of its own, or in place where its start is refused, and gives each back
-/// in the order of accepting. Where the link fails or no memory is found fewer are accepted, and all that were are
-/// given back first.
+/// Accepts n connections, serves each in a task of its own, and gives each back in the order of accepting. One whose
+/// start is refused waits for another start as long as other ones run, and is served in place where none does. Where
+/// the link fails, or no memory is found while none runs, fewer are accepted, and all that were are given back first.
 pub fn serve<L: Link, S: Service + Send + 'static, K: Spawner>(
     alloc: Global,
     service: &S,

@@ -1,7 +1,6 @@
-use Rattle.std.proofs.Common.{◌≡◌, ◌∙◌, refl, subst, sym}
+use Rattle.std.proofs.Common.{◌≡◌, ◌∙◌, refl}
 use Rattle.cf_conn.specs.Told.{ConnTold}
 use Rattle.cf_link.specs.Links.{told_now}
-use Rattle.cf_link.specs.Lines.{Stay}
 use Rattle.cf_link.proofs.Steps.{gives_none, gives_more}
 use Rattle.cf_link.proofs.Sweeps.{stay_same, stay_twice}
 use Rattle.cf_link.proofs.serving.make_ready.Goals as goal

@@ -1,4 +1,3 @@
-use Rattle.std.proofs.Common.{refl}
 use Rattle.cf_conn.specs.Told.{ConnTold}
 use Rattle.cf_link.specs.Links.{LinkTold, link_now, told_now}
 use Rattle.cf_link.proofs.Steps.{halfway_owed, halfway_end, two_steps}

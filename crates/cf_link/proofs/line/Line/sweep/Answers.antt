@@ -1,4 +1,4 @@
-use Rattle.std.proofs.Common.{◌≡◌, ◌≤◌, ◌∙◌, length, ap, sym, arith}
+use Rattle.std.proofs.Common.{◌≤◌, ◌∙◌, length, ap, arith}
 use Rattle.std.proofs.lemmas.List.{length-map}
 use Rattle.cf_link.proofs.Sweeps.{looked_over, looked_runs, looked_all}
 use Rattle.cf_link.proofs.line.Line.sweep.Goals as goal
