@@ -1,7 +1,7 @@
 /* Loaded before a program's own libraries (LD_PRELOAD), it refuses memory: of the calls of malloc and realloc that the
    program itself makes, the one whose number is REFUSED, counted from 1, finds none. Those of the system's libraries are
-   let alone. How many there were is written to the file COUNTED, where it is named. memory.py builds it and runs the
-   program over it. */
+   let alone. How many there were is written to the file COUNTED, where it is named. As long as there is a file WHILE, where
+   it is named, each call finds none. memory.py and crowd.py build it and run the program over it. */
 #define _GNU_SOURCE
 #include <fcntl.h>
 #include <link.h>
@@ -19,6 +19,7 @@ extern void *__libc_realloc(void *, size_t);
 static uintptr_t first, last;
 static atomic_ulong calls;
 static unsigned long refused;
+static const char *as_long_as;
 
 /* The program is the first object, and its parts are where its own calls come from. */
 static int range_of(struct dl_phdr_info *info, size_t size, void *unused)
@@ -40,6 +41,7 @@ __attribute__((constructor)) static void begin(void)
 {
     const char *number = getenv("REFUSED");
     refused = number ? strtoul(number, NULL, 10) : 0;
+    as_long_as = getenv("WHILE");
     dl_iterate_phdr(range_of, NULL);
 }
 
@@ -56,7 +58,9 @@ void _exit(int status)
 
 static int is_refused(uintptr_t caller)
 {
-    return first <= caller && caller < last && atomic_fetch_add(&calls, 1) + 1 == refused;
+    if (caller < first || last <= caller)
+        return 0;
+    return atomic_fetch_add(&calls, 1) + 1 == refused || (as_long_as && access(as_long_as, F_OK) == 0);
 }
 
 void *malloc(size_t size)

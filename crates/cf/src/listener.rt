@@ -100,6 +100,10 @@ impl Link for Listener {
         answer
     }
 
+    fn pause(&mut self) {
+        self.link.pause();
+    }
+
     fn give_back(&mut self, end: TcpEnd, how: u8) {
         self.told = self.told.saturating_add(1);
         let _told = eprintln!(&self.rt; "cf: connection {}: {}", self.told, way(how));

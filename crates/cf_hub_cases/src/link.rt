@@ -61,6 +61,10 @@ impl Link for ToldLink {
         self.link.accept()
     }
 
+    fn pause(&mut self) {
+        self.link.pause();
+    }
+
     fn give_back(&mut self, end: TcpEnd, how: u8) {
         self.link.give_back(end, how);
     }

@@ -1,5 +1,5 @@
 -- Lists side by side, and lists that are told.
-use Rattle.std.proofs.Common.{◌≡◌, ℕ, zero, suc, List, [], ◌∷◌, ◌++◌, Option, Some, None, length, refl, ap, sym, append_assoc, append-nil}
+use Rattle.std.proofs.Common.{◌≡◌, suc, List, [], ◌∷◌, ◌++◌, Option, Some, None, length, refl, ap, sym, append_assoc, append-nil}
 use Rattle.std.specs.List.{AllZip}
 use Rattle.cf_link.specs.Links.{longer_by}
 

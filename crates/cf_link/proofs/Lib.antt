@@ -1,3 +1,5 @@
 mod Gathers
+mod Places
+mod Sweeps
 mod Taken
 mod Steps

@@ -37,6 +37,19 @@ module _ {C S : Type 0} (told : C → ConnTold) (serves : S → ConnTold → ℕ
     count = (let n = g.count in let m = length-append g.ended (t ∷ []) in omega (arith, n, m, owed_less));
   }
 
+  -- some are given back, and then some more
+  pub gives_more : (tasks mid from to after : List (ServeTask C S)) (given given_mid given_to given_after : Option (List Given)) (owed owed_mid owed_to owed_after : ℕ)
+      → GivesBack told serves tasks mid given given_mid owed owed_mid → from ≡ mid → GivesBack told serves from to given_mid given_to owed_mid owed_to → after ≡ to → given_after ≡ given_to → owed_after ≡ owed_to
+      → GivesBack told serves tasks after given given_after owed owed_after
+  gives_more tasks mid from to after given given_mid given_to given_after owed owed_mid owed_to owed_after g begins h ends same_given same_owed = record {
+    ended = g.ended ++ h.ended;
+    back = g.back ++ h.back;
+    each = zip_append (IsAnswered told serves) g.ended g.back h.ended h.back g.each h.each;
+    line = g.line ∙ ap (λ l. g.ended ++ l) (sym begins ∙ h.line ∙ ap (λ l. h.ended ++ l) (sym ends)) ∙ sym (append_assoc g.ended h.ended after);
+    given_told = same_given ∙ h.given_told ∙ ap (λ o. longer_by o h.back) g.given_told ∙ longer_twice given g.back h.back;
+    count = (let n = g.count in let m = h.count in let k = length-append g.ended h.ended in omega (arith, n, m, k, same_owed));
+  }
+
   -- what is left of the line is owed
   pub left_owed : (tasks after : List (ServeTask C S)) (given given_after : Option (List Given)) (owed owed_after : ℕ)
       → GivesBack told serves tasks after given given_after owed owed_after → length tasks ≤ owed → length after ≤ owed_after

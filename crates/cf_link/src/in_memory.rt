@@ -153,6 +153,8 @@ where
         }
     }
 
+    fn pause(&mut self) {}
+
     fn give_back(&mut self, end: C::End, how: u8) {
         self.given.push_reserved((end, how));
     }

@@ -1,6 +1,7 @@
 //! Serving the connections that a listener accepts, each in a task of its own.
 #![tactic(auto)]
 
+mod flag;
 mod in_memory;
 mod line;
 mod link;

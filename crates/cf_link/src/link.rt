@@ -61,6 +61,15 @@ pub trait Link {
         ensures addresses { addresses self.new ≡ addresses self.old }
         ensures given { given self.new ≡ given self.old };
 
+    /// Waits a moment, so that the system may get what it lacked. In what the link tells nothing changes.
+    fn pause(&mut self)
+        ensures faults { faults self.new ≡ faults self.old }
+        ensures addresses { addresses self.new ≡ addresses self.old }
+        ensures accepted { accepted self.new ≡ accepted self.old }
+        ensures owed { owed self.new ≡ owed self.old }
+        ensures conns { conns self.new ≡ conns self.old }
+        ensures given { given self.new ≡ given self.old };
+
     /// Takes back what stays of a connection that was accepted, and the number of the way in which it ended.
     fn give_back(&mut self, end: <Self::Conn as Duplex>::End, how: u8)
         requires { 0 < owed self.old }

@@ -14,7 +14,7 @@ use std::{io, thread};
 /// How long a peer may take until it reads something of what is written to it, in seconds.
 const WRITE_SECONDS: u64 = 60;
 
-/// How long the system is given to get what it lacks for a connection, before one is accepted again, in milliseconds.
+/// How long the system is given to get what it lacks for a connection, before it is asked again, in milliseconds.
 const PAUSE: u64 = 100;
 
 /// How often at most it is told that the system lacks something for a connection, in seconds.
@@ -269,6 +269,10 @@ impl<R: Net<Listener = TcpListener, Stream = TcpStream> + Clock + Eprint + Drop>
             }
             Err(reason) => Err(self.failed(reason)),
         }
+    }
+
+    fn pause(&mut self) {
+        thread::sleep(&self.rt, Duration::from_millis(PAUSE));
     }
 
     fn give_back(&mut self, _end: TcpEnd, _how: u8) {

@@ -1,11 +1,10 @@
-use Rattle.std.proofs.Common.{refl}
 use Rattle.cf_conn.specs.Told.{ConnTold}
 use Rattle.cf_link.specs.Links.{LinkTold, link_now, told_now}
 use Rattle.cf_link.proofs.Steps.{halfway_owed, halfway_end, two_steps}
 use Rattle.cf_link.proofs.serving.serve.Goals as goal
 
-pub give_back-requires : goal.give_back-requires
-give_back-requires g c =
+pub finish-requires : goal.finish-requires
+finish-requires g c =
     let told : g.row.L-Conn.Denot → ConnTold = told_now g.L.Conn.Source.left g.L.Conn.Sink.written g.L.Conn.Source.ended g.L.Conn.Source.faults g.L.Conn.Sink.faults in
     let link = g.L.Link in
     let was = c.args.link.now in
@@ -18,6 +17,6 @@ returns-clause-serves g c =
     let link = g.L.Link in
     let tell : g.row.L.Denot → LinkTold = link_now link.addresses link.accepted link.owed link.conns link.given in
     let a = c.accept_all-answer.ensures in
-    let b = c.give_back.ensures in
-    halfway_end told g.S.Service.serves c.args.service.now c.accept_all-answer.new.line.tasks c.give_back.new.line.tasks (tell c.args.link.now) (tell c.accept_all-answer.new.link) (tell c.give_back.new.link)
-    a.halfway b.given b.conns b.accepted (b.all refl) (two_steps (link.addresses c.give_back.new.link) (link.addresses c.accept_all-answer.new.link) (link.addresses c.args.link.now) b.addresses a.addresses)
+    let b = c.finish.ensures in
+    halfway_end told g.S.Service.serves c.args.service.now c.accept_all-answer.new.line.tasks c.finish.new.line.tasks (tell c.args.link.now) (tell c.accept_all-answer.new.link) (tell c.finish.new.link)
+    a.halfway b.given b.conns b.accepted b.tasks (two_steps (link.addresses c.finish.new.link) (link.addresses c.accept_all-answer.new.link) (link.addresses c.args.link.now) b.addresses a.addresses)

@@ -1,4 +1,4 @@
-use Rattle.std.proofs.Common.{◌≡◌, ◌∙◌, sym, arith}
+use Rattle.std.proofs.Common.{◌∙◌, sym, arith}
 use Rattle.cf_link.specs.Links.{IsFresh, told_now}
 use Rattle.cf_link.proofs.Taken.{one_dropped, all_rest}
 use Rattle.cf_link.proofs.in_memory.ListLinkLink.accept.Goals as goal

@@ -1,0 +1,188 @@
+#!/usr/bin/env python3
+"""Many connections to `serve`, over loopback: `crowd.py [PROGRAM]`, where PROGRAM is `.build/cf` unless it is named. Three cases, one after another:
+
+    threads    a server that may have few threads has more silent peers than these; all leave but the one that found no thread, and then a peer comes
+    ended      one connection stays, and many come and go; the server's memory and its maps may not grow with these
+    memory     one connection stays, and for a second no memory is found; a peer comes then, and one comes afterwards
+
+A peer that comes is to be answered: its version by the server's. How the connections ended is to be told in the order in which they were accepted. The
+figures are printed, and the status is 1 where one is above its bound, or a case ends otherwise than it says.
+
+A limit of threads is that of a user. As root the server runs as one that has no other process, USER; the program is copied to where that one may read it.
+"""
+import os
+import re
+import resource
+import shutil
+import socket
+import subprocess
+import sys
+import tempfile
+import time
+
+from conversation import THEIR_VERSION
+from network import BENCH, ROOT, Run, comes
+
+# A user that has no process.
+USER = 54321
+# The threads that a server may have, and the silent peers.
+THREADS, SILENT = 20, 25
+# The connections that come and go, and how much the server may grow by them.
+SHORT, MAPS, BYTES = 5000, 100, 16 << 20
+# For how long no memory is found, in seconds, and how long a peer waits for its answer at most.
+WANT, WAIT = 1, 20
+
+
+def threads_of(user):
+    """How many threads a user has."""
+    found = 0
+    for name in filter(str.isdigit, os.listdir("/proc")):
+        try:
+            if os.stat("/proc/" + name).st_uid == user:
+                found += len(os.listdir(f"/proc/{name}/task"))
+        except OSError:
+            pass
+    return found
+
+
+class Server(Run):
+    """A server of a file of blocks, at a port of its own."""
+
+    def __init__(self, program, blocks, connections, **how):
+        super().__init__(program, "serve", "--connections", str(connections), blocks, "127.0.0.1:0", **how)
+        if not comes(lambda: "cf: serving" in self.told() or self.is_over()) or self.is_over():
+            raise SystemExit("it does not serve: " + self.told())
+        place = re.search(r"listening on (\S+):(\d+)", self.told())
+        self.place = (place.group(1), int(place.group(2)))
+
+    def peer(self):
+        return socket.create_connection(self.place, timeout=WAIT)
+
+    def is_answered(self, peer):
+        """Whether a peer's version is answered by the server's."""
+        try:
+            peer.sendall(THEIR_VERSION)
+            return len(peer.recv(24, socket.MSG_WAITALL)) == 24
+        except OSError:
+            return False
+
+    def threads(self):
+        return len(os.listdir(f"/proc/{self.process.pid}/task"))
+
+    def size(self):
+        """Its memory in bytes, and how many maps it has."""
+        with open(f"/proc/{self.process.pid}/statm") as file:
+            pages = int(file.read().split()[1])
+        with open(f"/proc/{self.process.pid}/maps") as file:
+            return pages * resource.getpagesize(), len(file.readlines())
+
+    def ends(self):
+        """The numbers of the connections that were told to have ended, in order."""
+        return [int(number) for number in re.findall(r"^cf: connection (\d+):", self.told(), re.M)]
+
+    def faults_at_end(self, count):
+        """What is otherwise than wanted once that many connections were accepted, and all have gone."""
+        if not comes(self.is_over, WAIT * 10):
+            return ["it has not ended"]
+        found = [] if self.process.returncode == 0 else [f"status {self.process.returncode}"]
+        return found + ([] if self.ends() == list(range(1, count + 1)) else ["the ends are told in another order, or not all of them"])
+
+
+def threads(program, blocks, folder):
+    limit = {"preexec_fn": lambda: resource.setrlimit(resource.RLIMIT_NPROC, (most, most))}
+    user = os.getuid()
+    if user == 0:
+        user = USER
+        limit.update(user=USER, group=USER, extra_groups=[])
+    most = threads_of(user) + THREADS
+    server, peers = Server(program, blocks, SILENT + 1, **limit), []
+    try:
+        own = server.threads()
+        for _ in range(SILENT):
+            peers.append(server.peer())
+        comes(lambda: server.threads() >= THREADS, 50)
+        # The first that found no thread, if all before it have one.
+        lacking = peers[server.threads() - own]
+        for peer in peers:
+            if peer is not lacking:
+                peer.close()
+        start = time.monotonic()
+        last = server.peer()
+        found = [] if server.is_answered(last) else [f"a peer that came was not answered within {WAIT} seconds"]
+        print(f"    {own} threads of its own, {server.threads()} with one silent peer and one that came, which was answered after {time.monotonic() - start:.1f} s")
+        lacking.close()
+        last.close()
+        return found + ([] if found else server.faults_at_end(SILENT + 1))
+    finally:
+        server.end()
+
+
+def ended(program, blocks, folder):
+    server = Server(program, blocks, SHORT + 2)
+    try:
+        stays = server.peer()
+        if not server.is_answered(stays):
+            return ["the first peer was not answered"]
+        bytes_before, maps_before = server.size()
+        start, answered = time.monotonic(), 0
+        for _ in range(SHORT):
+            with server.peer() as peer:
+                answered += server.is_answered(peer)
+        seconds = time.monotonic() - start
+        bytes_after, maps_after = server.size()
+        print(f"    {SHORT} connections in {seconds:.1f} s: {bytes_before >> 10} KiB and {maps_before} maps before, {bytes_after >> 10} KiB and {maps_after} maps after")
+        found = [] if answered == SHORT else [f"{SHORT - answered} peers were not answered"]
+        found += [] if bytes_after - bytes_before <= BYTES else [f"its memory grew by {bytes_after - bytes_before} bytes, more than {BYTES}"]
+        found += [] if maps_after - maps_before <= MAPS else [f"its maps grew by {maps_after - maps_before}, more than {MAPS}"]
+        found += [] if server.ends() == [] else ["an end was told before that of the first connection"]
+        stays.close()
+        server.peer().close()
+        return found + server.faults_at_end(SHORT + 2)
+    finally:
+        server.end()
+
+
+def memory(program, blocks, folder):
+    refusing, want = os.path.join(folder, "refuse.so"), os.path.join(folder, "want")
+    subprocess.run(["cc", "-O2", "-shared", "-fPIC", "-o", refusing, os.path.join(BENCH, "refuse.c")], check=True)
+    server = Server(program, blocks, 3, env=os.environ | {"LD_PRELOAD": refusing, "WHILE": want})
+    try:
+        stays = server.peer()
+        if not server.is_answered(stays):
+            return ["the first peer was not answered"]
+        open(want, "w").close()
+        server.peer().close()
+        time.sleep(WANT)
+        os.remove(want)
+        if server.is_over():
+            return ["the server has ended: " + server.told()]
+        start = time.monotonic()
+        last = server.peer()
+        found = [] if server.is_answered(last) else [f"a peer that came was not answered within {WAIT} seconds"]
+        print(f"    no memory for {WANT} s; a peer that came then was answered after {time.monotonic() - start:.1f} s")
+        stays.close()
+        last.close()
+        return found + server.faults_at_end(3)
+    finally:
+        server.end()
+
+
+def main():
+    program = os.path.abspath(sys.argv[1]) if len(sys.argv) > 1 else os.path.join(ROOT, ".build", "cf")
+    bad = False
+    with tempfile.TemporaryDirectory() as folder:
+        os.chmod(folder, 0o755)
+        copy, blocks = os.path.join(folder, "cf"), os.path.join(folder, "blocks.dat")
+        shutil.copy(program, copy)
+        os.chmod(copy, 0o755)
+        shutil.copy(os.path.join(ROOT, "data", "blocks.dat"), blocks)
+        os.chmod(blocks, 0o644)
+        for case in (threads, ended, memory):
+            found = case(copy, blocks, folder)
+            bad = bad or bool(found)
+            print("\n    ".join([f"{case.__name__}: {'otherwise' if found else 'as it should be'}"] + found), flush=True)
+    return 1 if bad else 0
+
+
+if __name__ == "__main__":
+    sys.exit(main())
