@@ -5,18 +5,12 @@
 
 ghost use Rattle.std.specs.Prelude.{◌≡◌};
 
-mod descriptors;
-mod faults;
-mod joined;
-mod listener;
-mod outside;
-
-use crate::joined::Joined;
-use crate::listener::Listener;
 use cf_answers::{Status, own_text};
 use cf_bytes::{StdFiles, WriterSink, put_all};
 use cf_cli::run;
-use cf_edge::Edge;
+use cf_cli_host::{
+    Edge, Joined, Listener, hold, moment, nonce, read_dials, tell, tell_stands, words_of,
+};
 use cf_network::Network;
 use cf_tasks::{InThreads, Spawner};
 use std::io;
@@ -34,7 +28,7 @@ fn say(rt: &HostRuntime, text: &str) -> Status {
 
 // Tells what went wrong. Where standard error can't be written, the exit status alone tells it.
 fn told(rt: &HostRuntime, words: &[String], status: Status, reason: &Option<io::Error>) -> Status {
-    let _told = faults::tell(rt, words, &status, reason);
+    let _told = tell(rt, words, &status, reason);
     status
 }
 
@@ -55,7 +49,7 @@ fn run_command<R: Wait + Threads + Sync + Copy + Drop + Send + 'static, K: Spawn
     spawner: &mut K,
 ) -> Status {
     let alloc = rt.alloc();
-    let Ok(dials) = outside::read_dials(alloc, words) else {
+    let Ok(dials) = read_dials(alloc, words) else {
         return told(rt, words, Status::NoMemory, &None);
     };
     let Ok(mut edge) = Edge::new(rt, handle, spawner, dials.peers) else {
@@ -69,8 +63,8 @@ fn run_command<R: Wait + Threads + Sync + Copy + Drop + Send + 'static, K: Spawn
         alloc,
         Joined::new(*rt),
         words,
-        outside::moment(rt),
-        outside::nonce(rt),
+        moment(rt),
+        nonce(rt),
         &mut files,
         &mut edge.network,
         &mut edge.tape,
@@ -80,13 +74,13 @@ fn run_command<R: Wait + Threads + Sync + Copy + Drop + Send + 'static, K: Spawn
         &mut WriterSink::new(io::writer(rt)),
         &mut ends,
     );
-    let _told = faults::tell_stands(rt, &status, &ends, &edge.network);
+    let _told = tell_stands(rt, &status, &ends, &edge.network);
     told(rt, words, status, &files.reason())
 }
 
 fn main(rt: HostRuntime) -> ExitCode {
-    descriptors::hold(&rt);
-    let status = match outside::words(&rt) {
+    hold(&rt);
+    let status = match words_of(&rt) {
         Ok(words) => match own_text(&words) {
             Some(text) => told(&rt, &words, say(&rt, text), &None),
             None => run_command(&rt, rt, &words, &mut InThreads::new(rt)),

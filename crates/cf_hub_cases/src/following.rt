@@ -4,7 +4,7 @@ use crate::link::ToldLink;
 use crate::row::{watch_in, words_at};
 use cf_bytes::{MOST_PEERS, MapFiles, VecSink};
 use cf_cli::run;
-use cf_edge::Edge;
+use cf_cli_host::Edge;
 use cf_grow::Nobody;
 use cf_rows::{Host, shown};
 use cf_tasks::{InThreads, Spawner};

@@ -1,4 +1,6 @@
 //! What the process is given.
+ghost use Rattle.std.specs.Prelude.{◌≡◌};
+
 use cf_answers::Status;
 use cf_bytes::{NoMemory, Refused};
 use cf_input::{Command, read_words};
@@ -7,21 +9,21 @@ use std::random::RandomSource;
 use std::time::{SystemTime, UNIX_EPOCH};
 use std::{env, io};
 
-/// The words of the call, the first of which is the program's name. A word that isn't UTF-8 is none that the program
-/// knows.
-pub fn words(rt: &HostRuntime) -> Result<Vec<String>, Status> {
-    let mut words = Vec::new(rt.alloc());
-    for word in env::args(rt).map_err(|e| unreadable(&e))? {
-        words.push(word).map_err(|_| Status::NoMemory)?;
-    }
-    Ok(words)
-}
-
 fn unreadable(e: &io::Error) -> Status {
     match e.kind() {
         io::ErrorKind::OutOfMemory => Status::NoMemory,
         _ => Status::Usage,
     }
+}
+
+/// The words of the call, the first of which is the program's name. A word that isn't UTF-8 is none that the program
+/// knows.
+pub fn words_of(rt: &HostRuntime) -> Result<Vec<String>, Status> {
+    let mut words = Vec::new(rt.alloc());
+    for word in env::args(rt).map_err(|e| unreadable(&e))? {
+        words.push(word).map_err(|_| Status::NoMemory)?;
+    }
+    Ok(words)
 }
 
 /// What the words ask of the network.
@@ -33,23 +35,34 @@ pub struct Dials {
     pub stays: bool,
 }
 
+// What a command asks of the network.
+fn dials_of(command: &Command) -> Dials {
+    match command {
+        Command::Sync { peers, .. } => Dials {
+            peers: peers.as_slice().len(),
+            stays: false,
+        },
+        Command::Follow { peers, .. } => Dials {
+            peers: peers.as_slice().len(),
+            stays: true,
+        },
+        _ => Dials {
+            peers: 0,
+            stays: false,
+        },
+    }
+}
+
 /// What the words ask of the network.
 ///
 /// # Errors
 ///
 /// Where no memory is found to read them.
 pub fn read_dials(alloc: Global, words: &[String]) -> Result<Dials, NoMemory> {
-    match &read_words(alloc, words) {
-        Ok(Command::Sync { peers, .. }) => Ok(Dials {
-            peers: peers.as_slice().len(),
-            stays: false,
-        }),
-        Ok(Command::Follow { peers, .. }) => Ok(Dials {
-            peers: peers.as_slice().len(),
-            stays: true,
-        }),
+    match read_words(alloc, words) {
+        Ok(command) => Ok(dials_of(&command)),
         Err(Refused::NoMemory) => Err(NoMemory),
-        _ => Ok(Dials {
+        Err(Refused::No(_)) => Ok(Dials {
             peers: 0,
             stays: false,
         }),
