@@ -41,19 +41,19 @@ pub judged_none : (files : Option Named) (status : Status) → IsJudged no_file 
 judged_none None status judged = tt
 judged_none (Some m) status judged = judged
 
-pub made_judged : (status : Status) {witness : Bool} {seed blocks : ℕ} {file : List ℕ} {before after : Option Named} → IsMaking status witness seed blocks file before after
+pub made_judged : (status : Status) (witness : Bool) (seed blocks : ℕ) (file : List ℕ) (before after : Option Named) → IsMaking status witness seed blocks file before after
     → IsJudged no_file status
-made_judged Done made = tt
-made_judged (NoNonce height) made = tt
-made_judged FileFault made = tt
-made_judged NoMemory made = tt
-made_judged Usage made = absurd made
-made_judged (BadFile which place cause) made = absurd made
-made_judged OutFault made = absurd made
-made_judged (NoPeers ends) made = absurd made
-made_judged Tired made = absurd made
-made_judged Ended made = absurd made
-made_judged LinkFault made = absurd made
-made_judged (NoHeight tip) made = absurd made
-made_judged (NotThere txid) made = absurd made
-made_judged (NotAddress cause) made = absurd made
+made_judged Done witness seed blocks file before after made = tt
+made_judged (NoNonce height) witness seed blocks file before after made = tt
+made_judged FileFault witness seed blocks file before after made = tt
+made_judged NoMemory witness seed blocks file before after made = tt
+made_judged Usage witness seed blocks file before after made = absurd made
+made_judged (BadFile which place cause) witness seed blocks file before after made = absurd made
+made_judged OutFault witness seed blocks file before after made = absurd made
+made_judged (NoPeers ends) witness seed blocks file before after made = absurd made
+made_judged Tired witness seed blocks file before after made = absurd made
+made_judged Ended witness seed blocks file before after made = absurd made
+made_judged LinkFault witness seed blocks file before after made = absurd made
+made_judged (NoHeight tip) witness seed blocks file before after made = absurd made
+made_judged (NotThere txid) witness seed blocks file before after made = absurd made
+made_judged (NotAddress cause) witness seed blocks file before after made = absurd made

@@ -6,7 +6,7 @@ use Rattle.cf_bytes.specs.Files.{Named}
 use Rattle.cf_wires.specs.Log.{Log}
 use Rattle.cf_answers.specs.declared.status.Status.{Status}
 use Rattle.cf_answers.specs.declared.status.Status.TheVariants.{Done, NoMemory, Usage, BadFile, FileFault, OutFault, NoPeers, Tired, Ended, LinkFault, NoNonce, NoHeight, NotThere, NotAddress}
-use Rattle.cf_loading.specs.Verdicts.{IsJudged, IsOfFile, FileVerdict, Good, watch_verdict}
+use Rattle.cf_loading.specs.Verdicts.{and_then, IsJudged, IsOfFile, FileVerdict, Good, session_verdict, watch_verdict}
 use Rattle.cf_answers.specs.Statuses.{was_unbegun}
 use Rattle.cf_cli_client.specs.Recording.{Records}
 use Rattle.std.specs.FinMap as finite
@@ -78,3 +78,13 @@ pub judged_once_begun : (files : Option Named) (watch : List ℕ) (status : Stat
     → IfSome files (λ m. IsJudged (watch_verdict (finite.get m watch)) status)
 judged_once_begun None watch status recorded good begun = tt
 judged_once_begun (Some m) watch status recorded good begun = subst (λ (v : FileVerdict). IsJudged v status) (sym good) (good_judged status recorded begun)
+
+-- and over the watch file and the session file of a run over a tape
+pub judged_played : (files between : Option Named) (watch session : List ℕ) (status : Status) (recorded : Bool) → between ≡ files
+    → IfSome files (λ m. watch_verdict (finite.get m watch) ≡ Good) → IfSome between (λ m. session_verdict (finite.get m session) ≡ Good) → was_unbegun status recorded ≡ false
+    → IfSome files (λ m. IsJudged (and_then (watch_verdict (finite.get m watch)) (session_verdict (finite.get m session))) status)
+judged_played None between watch session status recorded same good fine begun = tt
+judged_played (Some m) between watch session status recorded same good fine begun =
+    let read : session_verdict (finite.get m session) ≡ Good = subst (λ (o : Option Named). IfSome o (λ x. session_verdict (finite.get x session) ≡ Good)) same fine in
+    subst (λ (v : FileVerdict). IsJudged (and_then v (session_verdict (finite.get m session))) status) (sym good)
+    (subst (λ (v : FileVerdict). IsJudged v status) (sym read) (good_judged status recorded begun))

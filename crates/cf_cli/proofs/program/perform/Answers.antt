@@ -173,7 +173,7 @@ pub returns-in-Make : goal.returns-in-Make
 returns-in-Make g c =
     let known : Status → Type 0 = λ s. IsMaking s c.in-Make.witness c.in-Make.seed c.in-Make.blocks c.as_str-in-Make.result.now (g.F.Files.files c.args.files.now) (g.F.Files.files c.make.new.files) in
     rw c.in-Make.is (record {
-      judged = judged_none (g.F.Files.files c.args.files.now) c.make.result (made_judged c.make.result c.make.ensures.made);
+      judged = judged_none (g.F.Files.files c.args.files.now) c.make.result (made_judged c.make.result _ _ _ _ _ _ c.make.ensures.made);
       does = (rw c.as_str-in-Make.ensures at c.make.ensures.made, refl);
       files = record { unchanged = λ off. cc; asked = (c.args.files.now, refl, rw c.as_str-in-Make.ensures at c.make.ensures.files); fault = c.make.ensures.file_fault; fine = c.make.ensures.file_fine };
       wires = wires_stay c.requires.wires;

@@ -6,7 +6,9 @@ use Rattle.cf_wires.specs.Log.{Told}
 use Rattle.cf_wires.specs.Memory.{log_of, told_of}
 use Rattle.cf_input.specs.Sessions.{script_in}
 use Rattle.cf_loading.proofs.Counting.{counts_fine}
+use Rattle.cf_cli_client.proofs.Stays.{begun_by}
 use Rattle.cf_cli_client.proofs.Tallies.{versions_so}
+use Rattle.cf_cli.proofs.Records.{judged_played}
 use Rattle.cf_cli.proofs.Plays.{unplayed_greeting, early_plays, loaded_plays, new_tape, same_told, over_watch, watch_there}
 use Rattle.cf_cli.proofs.Stays.{early_replayed_in, tape_watch_on}
 use Rattle.cf_cli_client.specs.Following.{TalliedOn}
@@ -131,3 +133,13 @@ run_once-requires-clause-wires g c = record {
   log = new_tape c.load.new.self (c.load.ensures.log ∙ c.requires.tape.log);
   finished = c.load.ensures.finished ∙ c.requires.tape.finished;
 }
+
+pub returns-then-follow-clause-judged : goal.returns-then-follow-clause-judged
+returns-then-follow-clause-judged g c =
+    judged_played (g.F.Files.files c.args.files.now) (g.F.Files.files c.load_watch.new.files) c.args.watch.now c.args.session.now c.follow_on_tape.result false
+    c.load_watch.ensures.same c.in-Ok.ensures.answer c.in-Ok-load_session.ensures.answer (begun_by c.follow_on_tape.result false c.follow_on_tape.ensures.unrefused)
+
+pub returns-clause-judged : goal.returns-clause-judged
+returns-clause-judged g c =
+    judged_played (g.F.Files.files c.args.files.now) (g.F.Files.files c.load_watch.new.files) c.args.watch.now c.args.session.now c.run_once.result false
+    c.load_watch.ensures.same c.in-Ok.ensures.answer c.in-Ok-load_session.ensures.answer c.run_once.ensures.begun
