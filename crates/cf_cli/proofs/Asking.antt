@@ -1,14 +1,10 @@
 -- What was asked of the files.
-use Rattle.std.proofs.Common.{inl, ℕ, List, [], ◌∷◌, Option, Some, None, refl}
-use Rattle.cf_bytes.specs.Files.{ReadsFile, Opens, Parts, WritesFile, IsAtMostWritten}
+use Rattle.std.proofs.Common.{inl, List, [], ◌∷◌, Option, Some, None, refl}
+use Rattle.cf_bytes.specs.Files.{ReadsFile, Opens, Parts, WritesFile}
 use Rattle.cf_input.specs.declared.words.Command.{Command}
 use Rattle.cf_loading.specs.Asking.{FileRead, AreRead}
 use Rattle.cf_cli.specs.Asking.{AreAsked, files_read}
-
--- no file was written
-pub unwritten : {F : Type 0} (writes : WritesFile F) (file : Option (List ℕ)) (files : F) → IsAtMostWritten writes file files files
-unwritten writes None files = refl
-unwritten writes (Some name) files = inl refl
+use Rattle.cf_cli_client.proofs.Asking.{unwritten}
 
 -- no file was read
 unread : {F : Type 0} (reads : ReadsFile F) (opens : Opens F) (parts : Parts F) (asked : List FileRead) (files : F) → AreRead reads opens parts asked files files

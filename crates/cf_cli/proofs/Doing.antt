@@ -21,7 +21,8 @@ use Rattle.cf_answers.specs.declared.status.Status.TheVariants.{NoMemory}
 use Rattle.cf_cli.specs.Doing.{Around, Does}
 use Rattle.cf_offline.specs.Proving.{Checks, Proves, TakesWhatIsProved}
 use Rattle.cf_offline.specs.Reading.{Filters, Scans, TellsFilter, TellsHeight}
-use Rattle.cf_cli.proofs.Plays.{early_plays, early_tallied, early_told, new_dialled, same_command}
+use Rattle.cf_cli.proofs.Plays.{early_plays, early_tallied, early_told, same_command}
+use Rattle.cf_cli_client.proofs.Tallies.{new_dialled}
 use Rattle.cf_cli.proofs.Stays.{early_replayed_in, early_tallied_on, early_told_on}
 
 -- the same of the words, and of the same moment

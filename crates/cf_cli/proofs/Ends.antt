@@ -1,49 +1,25 @@
--- What is told of how each peer stands.
-use Rattle.std.proofs.Common.{◌≡◌, ◌⊎◌, ℕ, Bool, true, false, List, map, length, Option, Some, None, Result, Ok, inl, inr, refl, sym, ◌∙◌, ap, subst}
-use Rattle.std.specs.Prelude.{IfSome, String}
-use Rattle.std.specs.Global.{Global}
-use Rattle.std.specs.FinMap as finite
+-- What a command tells of how each peer stands.
+use Rattle.std.proofs.Common.{◌≡◌, ◌⊎◌, ℕ, Bool, false, List, map, length, Option, Some, None, Result, Ok, inl, inr, refl, sym, ◌∙◌, ap, subst}
+use Rattle.std.specs.Prelude.{IfSome}
 use Rattle.std.proofs.lemmas.List.{length-map}
-use Rattle.std.proofs.lemmas.Bool.{both_ways}
 use Rattle.cf_bytes.specs.Files.{Named}
-use Rattle.cf_headers.specs.Store.{Chains}
 use Rattle.cf_place.specs.declared.place.PeerEnd.{PeerEnd}
-use Rattle.cf_run.specs.declared.outcome.Outcome.{Outcome}
-use Rattle.cf_run.specs.Names.{names_in}
-use Rattle.cf_run.specs.Whole.{EndsWithin, IsOutcome}
-use Rattle.cf_sync.specs.Fetching.{Rule}
 use Rattle.cf_wires.specs.declared.event.Dial.{Dial}
-use Rattle.cf_wires.specs.Log.{Log, Told}
+use Rattle.cf_wires.specs.Log.{Told}
 use Rattle.cf_wires.specs.Wires.{WireScript}
 use Rattle.cf_input.specs.SessionFile.{session_of}
 use Rattle.cf_input.specs.declared.session.SessionFault.{SessionFault}
 use Rattle.cf_input.specs.declared.words.Command.{Command}
 use Rattle.cf_input.specs.declared.words.Command.TheVariants.{Replay, Sync, Follow, Scan, Filter, Address, Prove, Check, Serve, Make, Demo}
 use Rattle.cf_answers.specs.declared.status.Status.{Status}
-use Rattle.cf_place.specs.Standing.{EndsTell}
 use Rattle.cf_loading.specs.Verdicts.{IsOfFile}
-use Rattle.cf_cli.proofs.Plays.{all_dialled, no_run, told_so}
-use Rattle.cf_cli.proofs.Stays.{not_over}
-use Rattle.cf_cli.specs.Ends.{AreEndsOf, AreEndsBy, AreEndsOnce, AreEndsAfter, AreEndsOver, AreEnds, dials_in, dials_held, dials_read}
-use Rattle.cf_answers.specs.Statuses.{has_run, is_over, was_unbegun}
-
--- they are put once a run is begun
-pub ends_put : {made : Bool} {names : ℕ} {now : Told} {before after : List PeerEnd} (status : Status) (recorded : Bool)
-    → was_unbegun status recorded ≡ false → AreEndsBy names now after → AreEndsOnce made status recorded names now before after
-ends_put status recorded begun are = record {
-  told = λ is. are;
-  unbegun = λ is. absurd (both_ways (was_unbegun status recorded) begun is);
-  either = inr are;
-}
-
--- they stay where no run was made
-pub ends_stay : {made : Bool} (status : Status) (recorded : Bool) (names : ℕ) (now : Told) (ends : List PeerEnd)
-    → made ≡ false → AreEndsOnce made status recorded names now ends ends
-ends_stay {made} status recorded names now ends not = record {
-  told = λ is. absurd (both_ways made not is);
-  unbegun = λ is. refl;
-  either = inl refl;
-}
+use Rattle.cf_cli.proofs.Plays.{no_run, told_so}
+use Rattle.cf_cli_client.proofs.Stays.{not_over}
+use Rattle.cf_cli_client.specs.Ends.{AreEndsBy, AreEndsAfter, AreEndsOver}
+use Rattle.cf_cli.specs.Ends.{AreEnds, dials_in, dials_held, dials_read}
+use Rattle.cf_answers.specs.Statuses.{has_run}
+use Rattle.std.specs.FinMap as finite
+use Rattle.cf_cli_client.proofs.Ends.{ends_stay}
 
 -- nor where a file could not be read
 pub ends_early : (status : Status) (recorded : Bool) (names : ℕ) (now : Told) (ends : List PeerEnd) → IsOfFile status
@@ -53,40 +29,6 @@ ends_early status recorded names now ends is = ends_stay status recorded names n
 pub over_early : (status : Status) (recorded : Bool) (names : ℕ) (now : Told) (ends : List PeerEnd) → IsOfFile status
     → AreEndsOver status recorded names now ends ends
 over_early status recorded names now ends is = ends_stay status recorded names now ends (not_over status (no_run status is))
-
--- a copy of them
-copied_of : (log : Option Log) (counts : Chains → ℕ → Type 0) (rule : Rule) (names : List (List ℕ)) (o : Outcome) (put : List PeerEnd)
-    → put ≡ o.ends.items → IfSome log (IsOutcome counts rule names o) → AreEndsOf log put
-copied_of None counts rule names o put e is = tt
-copied_of (Some l) counts rule names o put e is = subst (λ (xs : List PeerEnd). EndsTell xs l) (sym e) is.ends
-
--- which are those of a run that was made
-pub copied : (now : Told) (counts : Chains → ℕ → Type 0) (rule : Rule) (names : List (String Global)) {turns : ℕ} (o : Outcome) (put : List PeerEnd)
-    → put ≡ o.ends.items → IfSome now.log (IsOutcome counts rule (names_in names) o) → now.finished ≡ true
-    → EndsWithin o.end (length names) turns now.tally → AreEndsBy (length (names_in names)) now put
-copied now counts rule names o put e is finished within = record {
-  whole = record { dialled = all_dialled names within; finished = finished };
-  tell = copied_of now.log counts rule (names_in names) o put e is;
-}
-
--- once it was begun, whatever becomes of its record
-pub over_recorded : (status : Status) (recorded : Bool) (names : ℕ) (now : Told) (before after : List PeerEnd)
-    → was_unbegun status recorded ≡ false → AreEndsOver status false names now before after
-    → AreEndsOver status recorded names now before after
-over_recorded status recorded names now before after begun are = record {
-  told = are.told;
-  unbegun = λ is. absurd (both_ways (was_unbegun status recorded) begun is);
-  either = are.either;
-}
-
-pub over_failed : (status other : Status) (recorded : Bool) (names : ℕ) (now : Told) (before after : List PeerEnd)
-    → is_over other ≡ false → was_unbegun other recorded ≡ false
-    → AreEndsOver status false names now before after → AreEndsOver other recorded names now before after
-over_failed status other recorded names now before after not begun are = record {
-  told = λ is. absurd (both_ways (is_over other) not is);
-  unbegun = λ is. absurd (both_ways (was_unbegun other recorded) begun is);
-  either = are.either;
-}
 
 -- a session that was read has so many dials
 read_dials : (r : Result WireScript SessionFault) (script : WireScript) (dialled : ℕ) → r ≡ Ok script → dials_read r dialled ≡ length script.dials

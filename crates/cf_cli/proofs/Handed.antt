@@ -1,13 +1,8 @@
 -- What is promised of each thing that a run is handed: where it stays, and told of the words that ask for the command.
 use Rattle.std.proofs.Common.{◌≡◌, ◌≢◌, inr, ℕ, ℤ, Bool, true, false, List, Option, Some, refl, sym, ◌∙◌, subst}
 use Rattle.std.specs.Prelude.{not, is_some, IfSome}
-use Rattle.std.specs.FinMap as finite
-use Rattle.std.proofs.lemmas.Bool.{both_ways}
 use Rattle.cf_bytes.specs.Files.{Named, ReadsFile, Opens, Parts, WritesFile, IsRead, IsAtMostWritten}
 use Rattle.cf_bytes.specs.Outside.{HasRisen}
-use Rattle.cf_place.specs.Standing.{Greeting}
-use Rattle.cf_run.specs.Run.{HasDialled, HasFailed}
-use Rattle.cf_run.specs.Versions.{HasGreeting}
 use Rattle.cf_run.specs.Whole.{AreNewWires}
 use Rattle.cf_run.proofs.Versions.{new_greeting}
 use Rattle.cf_wires.specs.Log.{Log, Told}
@@ -18,12 +13,16 @@ use Rattle.cf_answers.specs.declared.status.Status.{Status}
 use Rattle.cf_answers.specs.declared.status.Status.TheVariants.{FileFault}
 use Rattle.cf_answers.specs.Statuses.{was_unbegun}
 use Rattle.cf_loading.specs.Verdicts.{IsJudged, IsOfFile, Good, watch_verdict}
-use Rattle.cf_cli.specs.Handed.{IsNewTape, RunsFiles, RunsWires, UsesFiles, UsesWires, UsesTape, UsesPlayed, UsesLink, UsesOut}
-use Rattle.cf_cli.specs.Recording.{Records, is_recorded}
-use Rattle.cf_cli.specs.Statuses.{may_dial}
-use Rattle.cf_cli.proofs.Asking.{unasked, unwritten}
-use Rattle.cf_cli.proofs.Plays.{new_dialled, new_unfailed, unplayed_greeting, versions_so}
+use Rattle.cf_cli.specs.Handed.{IsNewTape, RunsFiles, UsesFiles, UsesWires, UsesTape, UsesPlayed, UsesLink, UsesOut}
+use Rattle.cf_cli_client.specs.Leaving.{RunsWires}
+use Rattle.cf_cli_client.specs.Recording.{Records}
+use Rattle.cf_cli.specs.Statuses.{is_recorded, may_dial}
+use Rattle.cf_cli.proofs.Asking.{unasked}
+use Rattle.cf_cli_client.proofs.Asking.{unwritten}
+use Rattle.cf_cli_client.proofs.Tallies.{new_unfailed, versions_so}
+use Rattle.cf_cli.proofs.Plays.{unplayed_greeting}
 use Rattle.cf_cli.proofs.Records.{early_records, judged_once_begun, records_from}
+use Rattle.std.specs.FinMap as finite
 
 -- what isn't off is on
 pub is_on : (b : Bool) → not b ≡ false → b ≡ true
@@ -33,8 +32,6 @@ is_on false on = cc
 -- an answer of which something is known that isn't so of another
 pub is_not : (P : Status → Type 0) (status other : Status) → P status → (P other → ⊥) → status ≢ other
 is_not P status other known none = λ is. none (subst P is known)
-
--- ---- it stays
 
 -- files of which nothing is asked
 pub files_stay : {F : Type 0} {files : F → Option Named} {faults : F → ℕ} {reads : ReadsFile F} {opens : Opens F} {parts : Parts F} {writes : WritesFile F}
@@ -62,8 +59,6 @@ tape_stays {moment} {nonce} {command} {status} {tape} new = record {
   versions = unplayed_greeting (record { moment = moment; number = nonce }) _ new.log;
   unplayed = λ off. refl;
 }
-
--- ---- `sync` and `follow`
 
 -- files of a run that wasn't begun, since the watch file is answered for or memory is wanting
 pub unrun_files : {F : Type 0} {files : F → Option Named} {faults : F → ℕ} {reads : ReadsFile F} {opens : Opens F} {parts : Parts F} {writes : WritesFile F}
@@ -94,30 +89,6 @@ run_files {F} {files} {faults} {reads} {opens} {parts} {writes} {watch} {file} {
   fine = λ ne. fine ne ∙ kept;
 }
 
--- new wires, which no run passes
-pub unrun_wires : {W : Type 0} {told : W → Told} {keeps : W → Bool} {faults : W → ℕ} {greeting : Greeting} {names : List (List ℕ)} {recorded : Bool} {status : Status} {w : W}
-    → AreNewWires (told w) → RunsWires told keeps faults greeting names recorded status w w
-unrun_wires {W} {told} {keeps} {faults} {greeting} {names} {recorded} {status} {w} new = record {
-  dialled = new_dialled names (told w) new.log;
-  versions = new_greeting greeting (told w) new.log;
-  failures = new_unfailed (told w) (faults w) (faults w) new.log;
-  unkept = λ off. refl;
-  undialled = λ is. refl;
-}
-
--- wires of a run
-pub run_wires : {W : Type 0} {told : W → Told} {keeps : W → Bool} {faults : W → ℕ} {z y : ℤ} {nonce : ℕ} {names : List (List ℕ)} {recorded : Bool} {status : Status} {before after : W}
-    → z ≡ y → HasDialled names (told after) → HasGreeting (record { moment = z; number = nonce }) (told after)
-    → IfSome (told after).log (λ log. HasFailed log → HasRisen (faults before) (faults after)) → (recorded ≡ false → keeps after ≡ keeps before)
-    → was_unbegun status recorded ≡ false → RunsWires told keeps faults (record { moment = y; number = nonce }) names recorded status before after
-run_wires {W} {told} {keeps} {faults} {z} {y} {nonce} {names} {recorded} {status} {before} {after} same dialled versions failures unkept begun = record {
-  dialled = dialled;
-  versions = versions_so z y nonce (told after) same versions;
-  failures = failures;
-  unkept = unkept;
-  undialled = λ is. absurd (both_ways (was_unbegun status recorded) begun is);
-}
-
 -- wires of a command that may dial and record as the run did
 pub dialled_wires : {W : Type 0} {told : W → Told} {keeps : W → Bool} {faults : W → ℕ} {z y : ℤ} {nonce : ℕ} {names : List (List ℕ)} {recorded : Bool} {command : Option Command} {status : Status} {before after : W}
     → may_dial command status ≡ not (was_unbegun status recorded) → is_recorded command ≡ recorded → z ≡ y
@@ -128,8 +99,6 @@ dialled_wires {W} {told} {keeps} {faults} {z} {y} {nonce} {names} {recorded} {co
   undialled = λ off. runs.undialled (is_on (was_unbegun status recorded) (sym dials ∙ off));
   unkept = λ off. runs.unkept (sym records ∙ off);
 }
-
--- ---- told of the words, at the same moment
 
 pub files_so : {F : Type 0} {files : F → Option Named} {faults : F → ℕ} {reads : ReadsFile F} {opens : Opens F} {parts : Parts F} {writes : WritesFile F}
     {found : Option Command} {command : Command} {status : Status} {before after : F} → found ≡ Some command

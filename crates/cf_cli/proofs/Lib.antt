@@ -1,11 +1,8 @@
 pub mod Asking
-pub mod Records
-pub mod Runs
-pub mod Plays
-pub mod Retold
-pub mod Serves
-pub mod Demos
 pub mod Doing
-pub mod Stays
 pub mod Ends
 pub mod Handed
+pub mod Performing
+pub mod Plays
+pub mod Records
+pub mod Stays

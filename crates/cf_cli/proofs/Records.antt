@@ -1,25 +1,16 @@
 -- What becomes of the files.
-use Rattle.std.proofs.Common.{◌≡◌, ◌≢◌, ℕ, Bool, false, List, Option, Some, None, refl, sym, subst}
+use Rattle.std.proofs.Common.{◌≡◌, ◌≢◌, ℕ, Bool, false, List, Option, Some, None, sym, subst}
 use Rattle.std.specs.Prelude.{is_some, IfSome}
-use Rattle.std.specs.FinMap as finite
 use Rattle.std.proofs.lemmas.Bool.{false≢true}
-use Rattle.cf_bytes.specs.Files.{Named, SameElsewhere}
+use Rattle.cf_bytes.specs.Files.{Named}
 use Rattle.cf_wires.specs.Log.{Log}
 use Rattle.cf_answers.specs.declared.status.Status.{Status}
 use Rattle.cf_answers.specs.declared.status.Status.TheVariants.{Done, NoMemory, Usage, BadFile, FileFault, OutFault, NoPeers, Tired, Ended, LinkFault, NoNonce, NoHeight, NotThere, NotAddress}
-use Rattle.cf_loading.specs.Verdicts.{IsJudged, IsOfFile, FileVerdict, Good, watch_verdict}
-use Rattle.cf_answers.specs.Statuses.{was_refused, was_unbegun}
-use Rattle.cf_cli.specs.Recording.{HasRecord, KeepsOthers, Records}
-use Rattle.cf_cli.specs.Theorem.{IsOfRun}
-
-same_elsewhere : (name : List ℕ) (files : Option Named) → SameElsewhere name files files
-same_elsewhere name None = tt
-same_elsewhere name (Some m) = λ other apart. refl
-
--- files that stay keep all others too
-pub keeps_same : (file : Option (List ℕ)) (before after : Option Named) → after ≡ before → KeepsOthers file before after
-keeps_same None before after same = same
-keeps_same (Some name) before after same = subst (λ (files : Option Named). SameElsewhere name before files) (sym same) (same_elsewhere name before)
+use Rattle.cf_loading.specs.Verdicts.{and_then, IsJudged, IsOfFile, FileVerdict, Good, session_verdict, watch_verdict}
+use Rattle.cf_answers.specs.Statuses.{was_unbegun}
+use Rattle.cf_cli_client.specs.Recording.{Records}
+use Rattle.std.specs.FinMap as finite
+use Rattle.cf_cli_client.proofs.Records.{keeps_same}
 
 -- where a file is answered for before a run no file has changed
 pub early_records : (status : Status) (file : Option (List ℕ)) (log : Option Log) (before after : Option Named) → IsOfFile status → after ≡ before → Records status file log before after
@@ -37,24 +28,6 @@ early_records (NoNonce height) file log before after is same = absurd is
 early_records (NoHeight tip) file log before after is same = absurd is
 early_records (NotThere txid) file log before after is same = absurd is
 early_records (NotAddress cause) file log before after is same = absurd is
-
--- the record of a run that was begun, where memory was not wanting
-pub begun_records : (status : Status) (file : Option (List ℕ)) (log : Option Log) (before after : Option Named) → IsOfRun status → was_refused status ≡ false → status ≢ NoMemory
-    → HasRecord file log before after → Records status file log before after
-begun_records Done file log before after is begun enough kept = kept
-begun_records NoMemory file log before after is begun enough kept = absurd (enough refl)
-begun_records (BadFile which place cause) file log before after is begun enough kept = absurd (false≢true (sym begun))
-begun_records FileFault file log before after is begun enough kept = absurd (false≢true (sym begun))
-begun_records OutFault file log before after is begun enough kept = kept
-begun_records (NoPeers ends) file log before after is begun enough kept = kept
-begun_records Tired file log before after is begun enough kept = kept
-begun_records Ended file log before after is begun enough kept = kept
-begun_records Usage file log before after is begun enough kept = absurd is
-begun_records LinkFault file log before after is begun enough kept = absurd is
-begun_records (NoNonce height) file log before after is begun enough kept = absurd is
-begun_records (NoHeight tip) file log before after is begun enough kept = absurd is
-begun_records (NotThere txid) file log before after is begun enough kept = absurd is
-begun_records (NotAddress cause) file log before after is begun enough kept = absurd is
 
 -- the same files, told by what they are equal to
 pub records_from : (status : Status) (file : Option (List ℕ)) (log : Option Log) (first before after : Option Named) → before ≡ first → Records status file log before after
@@ -105,3 +78,13 @@ pub judged_once_begun : (files : Option Named) (watch : List ℕ) (status : Stat
     → IfSome files (λ m. IsJudged (watch_verdict (finite.get m watch)) status)
 judged_once_begun None watch status recorded good begun = tt
 judged_once_begun (Some m) watch status recorded good begun = subst (λ (v : FileVerdict). IsJudged v status) (sym good) (good_judged status recorded begun)
+
+-- and over the watch file and the session file of a run over a tape
+pub judged_played : (files between : Option Named) (watch session : List ℕ) (status : Status) (recorded : Bool) → between ≡ files
+    → IfSome files (λ m. watch_verdict (finite.get m watch) ≡ Good) → IfSome between (λ m. session_verdict (finite.get m session) ≡ Good) → was_unbegun status recorded ≡ false
+    → IfSome files (λ m. IsJudged (and_then (watch_verdict (finite.get m watch)) (session_verdict (finite.get m session))) status)
+judged_played None between watch session status recorded same good fine begun = tt
+judged_played (Some m) between watch session status recorded same good fine begun =
+    let read : session_verdict (finite.get m session) ≡ Good = subst (λ (o : Option Named). IfSome o (λ x. session_verdict (finite.get x session) ≡ Good)) same fine in
+    subst (λ (v : FileVerdict). IsJudged (and_then v (session_verdict (finite.get m session))) status) (sym good)
+    (subst (λ (v : FileVerdict). IsJudged v status) (sym read) (good_judged status recorded begun))

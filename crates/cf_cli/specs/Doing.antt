@@ -15,14 +15,14 @@ use Rattle.cf_input.specs.SessionFile.{session_of}
 use Rattle.cf_input.specs.Words.{most_turns}
 use Rattle.cf_answers.specs.declared.status.Status.{Status}
 use Rattle.cf_answers.specs.declared.status.Status.TheVariants.{NoMemory}
-use Rattle.cf_cli.specs.Demo.{IsDemoed}
+use Rattle.cf_cli_demo.specs.Demo.{IsDemoed}
 use Rattle.cf_offline.specs.Making.{IsMaking}
 use Rattle.cf_offline.specs.Proving.{IsProved, IsChecked}
 use Rattle.cf_offline.specs.Reading.{IsScanned, IsFiltered, IsAddressed}
-use Rattle.cf_cli.specs.Recording.{Records}
-use Rattle.cf_cli.specs.Serving.{IsServing}
-use Rattle.cf_cli.specs.Following.{IsReplayedIn, KeptLive, TalliedOn}
-use Rattle.cf_cli.specs.Theorem.{KeptOver, Tallied, PlaysSession, WasOver}
+use Rattle.cf_cli_client.specs.Recording.{Records}
+use Rattle.cf_cli_serve.specs.Serving.{IsServing}
+use Rattle.cf_cli_client.specs.Following.{IsReplayedIn, KeptLive, TalliedOn}
+use Rattle.cf_cli_client.specs.Theorem.{KeptOver, Tallied, PlaysSession, WasOver}
 
 -- all that a run is handed: what stands in the files, what the sink was given, how often it has failed, what the wires and the tape tell, the log of the
 -- tape, what the link tells, and the log of the played peers

@@ -1,10 +1,9 @@
 -- statement: what is promised of each thing that a run is handed.
-use Rattle.std.specs.Prelude.{◌≡◌, ◌≢◌, ℕ, ℤ, Bool, true, false, List, [], ◌∷◌, Option, IfSome}
+use Rattle.std.specs.Prelude.{◌≡◌, ◌≢◌, ℕ, ℤ, Bool, false, List, [], ◌∷◌, Option, IfSome}
 use Rattle.std.specs.FinMap as finite
 use Rattle.cf_bytes.specs.Files.{Named, ReadsFile, Opens, Parts, WritesFile}
 use Rattle.cf_bytes.specs.Outside.{HasRisen}
-use Rattle.cf_place.specs.Standing.{Greeting}
-use Rattle.cf_run.specs.Run.{HasDialled, HasFailed}
+use Rattle.cf_run.specs.Run.{HasFailed}
 use Rattle.cf_run.specs.Versions.{HasGreeting, IsOfGreeting}
 use Rattle.cf_wires.specs.Log.{Log, Told}
 use Rattle.cf_wires.specs.Memory.{log_of, failing_of, finished_of}
@@ -13,17 +12,16 @@ use Rattle.cf_played.specs.Told.{log_of as played_log, peers_of, finished_of as 
 use Rattle.cf_played.specs.declared.played.Played.{Played}
 use Rattle.cf_input.specs.declared.words.Command.{Command}
 use Rattle.cf_answers.specs.declared.status.Status.{Status}
-use Rattle.cf_answers.specs.declared.status.Status.TheVariants.{NoMemory, FileFault, OutFault, LinkFault}
-use Rattle.cf_answers.specs.Statuses.{was_unbegun}
+use Rattle.cf_answers.specs.declared.status.Status.TheVariants.{FileFault, LinkFault}
 use Rattle.cf_loading.specs.Asking.{Whole}
 use Rattle.cf_loading.specs.Verdicts.{IsJudged, watch_verdict}
 use Rattle.cf_cli.specs.Asking.{AreAsked, AsksFor}
-use Rattle.cf_cli.specs.Demo.{may_show}
-use Rattle.cf_cli.specs.Recording.{Records, is_recorded, may_write}
-use Rattle.cf_cli.specs.Serving.{may_serve}
+use Rattle.cf_cli_demo.specs.Demo.{may_show}
+use Rattle.cf_cli_client.specs.Recording.{Records}
+use Rattle.cf_cli.specs.Statuses.{is_recorded, may_write}
+use Rattle.cf_cli_serve.specs.Serving.{may_serve}
 use Rattle.cf_cli.specs.Statuses.{goes_on, may_dial, may_play, may_say}
-
--- ---- what is handed in: the wires, the tape and the played peers are new
+use Rattle.cf_cli_client.specs.Leaving.{CountsOn}
 
 -- nothing has passed the tape, no call of it is to fail, and it isn't finished
 pub record IsNewTape (tape : MemoryWires) : Type 0 where
@@ -37,8 +35,6 @@ pub record IsNewPlayed (played : Played) : Type 0 where
   pub peers : peers_of played ≡ []
   pub finished : has_finished played ≡ false
 
--- ---- what becomes of the files and the wires of `sync` and of `follow`
-
 -- The files: the watch file is judged first, it alone is read, what becomes of them goes by the answer and by the log, and their count of faults has risen
 -- where they are to blame, and stays with any other answer.
 pub record RunsFiles {F : Type 0} (files : F → Option Named) (faults : F → ℕ) (reads : ReadsFile F) (opens : Opens F) (parts : Parts F) (writes : WritesFile F)
@@ -48,24 +44,6 @@ pub record RunsFiles {F : Type 0} (files : F → Option Named) (faults : F → �
   pub records : Records status file log (files before) (files after)
   pub fault : status ≡ FileFault → HasRisen (faults before) (faults after)
   pub fine : status ≢ FileFault → faults after ≡ faults before
-
--- The wires: the names were dialled in order, each version that was sent tells this greeting, where a call has failed their count of faults has risen, they keep
--- their log no more than before unless it is to be recorded, and what they tell stays where no run was begun.
-pub record RunsWires {W : Type 0} (told : W → Told) (keeps : W → Bool) (faults : W → ℕ) (greeting : Greeting) (names : List (List ℕ)) (recorded : Bool)
-    (status : Status) (before after : W) : Type 0 where
-  pub dialled : HasDialled names (told after)
-  pub versions : HasGreeting greeting (told after)
-  pub failures : IfSome (told after).log (λ log. HasFailed log → HasRisen (faults before) (faults after))
-  pub unkept : recorded ≡ false → keeps after ≡ keeps before
-  pub undialled : was_unbegun status recorded ≡ true → told after ≡ told before
-
--- How often the sink has failed, by the answer, and by whether what is done goes on once it has: more often with OutFault, and not once more with any other
--- answer. Only where it goes on do FileFault and NoMemory leave it open, since a record can fail behind the sink.
-pub record CountsOn (goes_on : Bool) (status : Status) (before after : ℕ) : Type 0 where
-  pub fault : status ≡ OutFault → HasRisen before after
-  pub fine : status ≢ OutFault → (goes_on ≡ true → (status ≢ FileFault) × (status ≢ NoMemory)) → after ≡ before
-
--- ---- what becomes of it, by the command that the words ask for, and its answer
 
 -- The files: a command that writes none changes none, what is asked of them is what the command asks, and their count of faults has risen where they are to
 -- blame, and stays with any other answer.

@@ -1,11 +1,5 @@
 pub mod Asking
-pub mod Retelling
-pub mod Recording
-pub mod Statuses
-pub mod Theorem
-pub mod Serving
-pub mod Demo
 pub mod Doing
 pub mod Ends
-pub mod Following
 pub mod Handed
+pub mod Statuses

@@ -7,6 +7,8 @@ use Rattle.cf_answers.specs.declared.status.Status.{Status}
 use Rattle.cf_input.specs.declared.words.Command.{Command}
 use Rattle.cf_input.specs.declared.words.Command.TheVariants.{Replay, Sync, Follow, Scan, Filter, Address, Prove, Check, Serve, Make, Demo}
 use Rattle.cf_loading.specs.Verdicts.{FileVerdict, and_then, no_file, watch_verdict, session_verdict, blocks_verdict, proof_verdict}
+use Rattle.std.specs.Prelude.{None}
+use Rattle.cf_cli.specs.Asking.{name_written}
 
 -- what the files of a command are judged as, in the order in which they are judged: the watch file first
 abbrev pub verdict_of : Named → Command → FileVerdict
@@ -43,3 +45,14 @@ may_say command status = has_run status
 abbrev pub goes_on : Option Command → Bool
 goes_on (Some (Follow turns workers file watch peers)) = is_some file
 goes_on command = false
+
+-- whether a command may change a file: where it writes one
+abbrev pub may_write : Option Command → Bool
+may_write (Some command) = is_some (name_written command)
+may_write None = false
+
+-- whether a command asks for a record: `sync` and `follow` may
+abbrev pub is_recorded : Option Command → Bool
+is_recorded (Some (Sync turns workers file watch peers)) = is_some file
+is_recorded (Some (Follow turns workers file watch peers)) = is_some file
+is_recorded command = false

@@ -3,28 +3,24 @@ ghost use Rattle.std.specs.Prelude.{◌≡◌, ◌≢◌, ◌≤◌, ◌⊎◌, 
 ghost use Rattle.std.specs.FinMap as finite;
 ghost use Rattle.cf_bytes.specs.{IsRead, HasRisen};
 ghost use Rattle.cf_run.specs.{AreNewWires, names_in, IsOfGreeting};
-ghost use Rattle.cf_wires.specs.{log_of, failing_of, finished_of, told_of};
+ghost use Rattle.cf_wires.specs.{log_of, told_of};
 ghost use Rattle.cf_input.specs.{session_of, watch_of, command_of, HasFewPeers};
 ghost use Rattle.cf_cli.specs.Asking.{AsksFor};
-ghost use Rattle.cf_loading.specs.Verdicts.{CountsFile};
-ghost use Rattle.cf_loading.specs.{Whole, IsJudged, IsOfFile, Good, and_then, watch_verdict, session_verdict};
-ghost use Rattle.cf_offline.specs.{CountsOut};
-ghost use Rattle.cf_answers.specs.{has_run, was_refused, was_unbegun};
+ghost use Rattle.cf_loading.specs.{CountsFile, Whole, IsJudged, IsOfFile, Good, and_then, watch_verdict, session_verdict};
+ghost use Rattle.cf_answers.specs.{has_run, was_refused, was_unbegun, CountsOut};
 ghost use Rattle.cf_cli.specs.Statuses.{verdict_of};
 ghost use Rattle.cf_link.specs.{link_now};
 ghost use Rattle.cf_cli.specs.Doing.{Does, around};
-ghost use Rattle.cf_cli.specs.Ends.{AreEnds, AreEndsAfter, AreEndsOver, dials_in};
-ghost use Rattle.cf_cli.specs.Handed.{CountsOn, IsNewPlayed, IsNewTape, RunsFiles, RunsWires, UsesFiles, UsesLink, UsesOut, UsesPlayed, UsesTape, UsesWires};
-ghost use Rattle.cf_cli.specs.Following.{IsReplayedIn, KeptLive, TalliedOn};
-ghost use Rattle.cf_cli.specs.Theorem.{KeptOver, Tallied, PlaysSession, WasOver};
+ghost use Rattle.cf_cli.specs.Ends.{AreEnds, dials_in};
+ghost use Rattle.cf_cli_client.specs.{AreEndsAfter, AreEndsOver, CountsOn, RunsWires, IsReplayedIn, KeptLive, TalliedOn, IsOfRun, KeptOver, Tallied, PlaysSession, WasOver};
+ghost use Rattle.cf_cli.specs.Handed.{IsNewPlayed, IsNewTape, RunsFiles, UsesFiles, UsesLink, UsesOut, UsesPlayed, UsesTape, UsesWires};
 ghost use Rattle.cf_input.specs.declared.words.Command.{Command};
 
-use crate::demoing::demo;
-use crate::following::{follow_and_record, follow_on_tape};
-use crate::once::run_once;
-use crate::serving::serve;
 use cf_answers::Status;
 use cf_bytes::{Files, NoMemory, Refused, Sink};
+use cf_cli_client::{follow_and_record, follow_on_tape, run_once};
+use cf_cli_demo::demo;
+use cf_cli_serve::serve;
 use cf_conn::Duplex;
 use cf_grow::Joins;
 use cf_input::{Command, MOST_TURNS, MOST_WORKERS, Word, read_words};
@@ -56,9 +52,7 @@ fn replay<F: Files, O: Sink>(
     out: &mut O,
     ends: &mut Vec<PeerEnd>,
 ) -> Status
-    requires log { log_of tape.old ≡ [] }
-    requires failing { failing_of tape.old ≡ [] }
-    requires open { finished_of tape.old ≡ false }
+    requires tape { IsNewTape tape.old }
     ensures judged { IfSome (F.files files.old) (λ m. IsJudged (and_then (watch_verdict (finite.get m watch.now))
         (session_verdict (finite.get m session.now))) result) }
     ensures replayed { IsReplayedIn follow result MOST_TURNS trace (F.files files.old) watch.now
@@ -74,7 +68,7 @@ fn replay<F: Files, O: Sink>(
     ensures counts { CountsOut result (O.faults out.old) (O.faults out.new) }
     ensures unwritten { has_run result ≡ false → O.written out.new ≡ O.written out.old }
     ensures unplayed { was_refused result ≡ true → tape.new ≡ tape.old }
-    ensures asked { result ≢ Status.Usage }
+    ensures answers { IsOfRun result }
     ensures ends { AreEndsAfter result false (dials_in (F.files files.old) session.now (told_of tape.new).tally.dials)
         (told_of tape.new) ends.old.items ends.new.items }
 {
@@ -183,7 +177,6 @@ fn sync<R: Wait + Threads + Copy + Drop + Send + 'static, F: Files, W: Wires, K:
         (names_in peers.now) (is_some log_file.now) result wires.old wires.new }
     ensures counts { CountsOut result (O.faults out.old) (O.faults out.new) }
     ensures unwritten { has_run result ≡ false → O.written out.new ≡ O.written out.old }
-    ensures asked { result ≢ Status.Usage }
     ensures ends { AreEndsAfter result (is_some log_file.now) (length (names_in peers.now)) (W.told wires.new)
         ends.old.items ends.new.items }
 {
@@ -234,7 +227,6 @@ fn follow<
         (names_in peers.now) (is_some log_file.now) result wires.old wires.new }
     ensures counts { CountsOn (is_some log_file.now) result (O.faults out.old) (O.faults out.new) }
     ensures unwritten { was_unbegun result (is_some log_file.now) ≡ true → O.written out.new ≡ O.written out.old }
-    ensures asked { result ≢ Status.Usage }
     ensures ends { AreEndsOver result (is_some log_file.now) (length (names_in peers.now)) (W.told wires.new)
         ends.old.items ends.new.items }
 {
@@ -266,7 +258,7 @@ fn perform<
     rt: R,
     alloc: Global,
     joins: J,
-    command: Command,
+    command: &Command,
     moment: i64,
     nonce: u64,
     files: &mut F,
@@ -284,23 +276,23 @@ where
     requires wires { AreNewWires (W.told wires.old) }
     requires tape { IsNewTape tape.old }
     requires played { IsNewPlayed played.old }
-    requires few { HasFewPeers command }
-    ensures judged { IfSome (F.files files.old) (λ m. IsJudged (verdict_of m command) result) }
-    ensures does { Does command result moment nonce
+    requires few { HasFewPeers command.now }
+    ensures judged { IfSome (F.files files.old) (λ m. IsJudged (verdict_of m command.now) result) }
+    ensures does { Does command.now result moment nonce
         (around (F.files files.old) (O.written out.old) (O.faults out.old) (W.told wires.old) tape.old played.old
         (link_now L.addresses L.accepted L.owed L.conns L.given link.old))
         (around (F.files files.new) (O.written out.new) (O.faults out.new) (W.told wires.new) tape.new played.new
         (link_now L.addresses L.accepted L.owed L.conns L.given link.new)) }
-    ensures files { UsesFiles F.files F.faults F.reads F.opens F.parts F.writes (Some command) result
+    ensures files { UsesFiles F.files F.faults F.reads F.opens F.parts F.writes (Some command.now) result
         files.old files.new }
-    ensures wires { UsesWires W.told W.keeps W.faults moment nonce (Some command) result
+    ensures wires { UsesWires W.told W.keeps W.faults moment nonce (Some command.now) result
         wires.old wires.new }
-    ensures tape { UsesTape moment nonce (Some command) result tape.old tape.new }
-    ensures played { UsesPlayed (Some command) played.old played.new }
-    ensures link { UsesLink L.faults (Some command) result link.old link.new }
-    ensures out { UsesOut O.written O.faults (Some command) result out.old out.new }
+    ensures tape { UsesTape moment nonce (Some command.now) result tape.old tape.new }
+    ensures played { UsesPlayed (Some command.now) played.old played.new }
+    ensures link { UsesLink L.faults (Some command.now) result link.old link.new }
+    ensures out { UsesOut O.written O.faults (Some command.now) result out.old out.new }
     ensures asked { result ≢ Status.Usage }
-    ensures ends { AreEnds (Some command) result (F.files files.old) (W.told wires.new) (told_of tape.new)
+    ensures ends { AreEnds (Some command.now) result (F.files files.old) (W.told wires.new) (told_of tape.new)
         ends.old.items ends.new.items }
 {
     match command {
@@ -314,8 +306,8 @@ where
             files,
             watch.as_str(),
             session.as_str(),
-            follow,
-            trace,
+            *follow,
+            *trace,
             moment,
             nonce,
             tape,
@@ -334,11 +326,11 @@ where
             files,
             watch.as_str(),
             peers.as_slice(),
-            &record,
-            threads_of(workers),
+            record,
+            threads_of(*workers),
             moment,
             nonce,
-            turns,
+            *turns,
             wires,
             spawner,
             out,
@@ -356,20 +348,20 @@ where
             files,
             watch.as_str(),
             peers.as_slice(),
-            &record,
-            threads_of(workers),
+            record,
+            threads_of(*workers),
             moment,
             nonce,
-            turns,
+            *turns,
             wires,
             spawner,
             out,
             ends,
         ),
         Command::Scan { file, watch } => scan(alloc, files, file.as_str(), watch.as_str(), out),
-        Command::Filter { file, height } => filter(&rt, alloc, files, file.as_str(), height, out),
+        Command::Filter { file, height } => filter(&rt, alloc, files, file.as_str(), *height, out),
         Command::Address { text } => address(alloc, text.as_str(), out),
-        Command::Prove { file, txid } => prove(alloc, files, file.as_str(), &txid, out),
+        Command::Prove { file, txid } => prove(alloc, files, file.as_str(), txid, out),
         Command::Check { file } => check(alloc, files, file.as_str(), out),
         Command::Serve {
             grow,
@@ -380,11 +372,11 @@ where
             rt,
             alloc,
             files,
-            grow,
+            *grow,
             joins,
             file.as_str(),
             address.as_str(),
-            connections,
+            *connections,
             moment,
             nonce,
             link,
@@ -395,8 +387,8 @@ where
             seed,
             blocks,
             file,
-        } => make(alloc, files, witness, seed, blocks, file.as_str()),
-        Command::Demo { seed, blocks } => demo(rt, alloc, seed, blocks, spawner, played, out),
+        } => make(alloc, files, *witness, *seed, *blocks, file.as_str()),
+        Command::Demo { seed, blocks } => demo(rt, alloc, *seed, *blocks, spawner, played, out),
     }
 }
 
@@ -476,7 +468,7 @@ where
 {
     match read_words(alloc, words) {
         Ok(command) => perform(
-            rt, alloc, joins, command, moment, nonce, files, wires, tape, played, link, spawner,
+            rt, alloc, joins, &command, moment, nonce, files, wires, tape, played, link, spawner,
             out, ends,
         ),
         Err(Refused::No(_)) => Status::Usage,

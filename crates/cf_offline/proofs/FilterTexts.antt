@@ -8,7 +8,8 @@ use Rattle.cf_chain.specs.Filters.{Filtered, filters_of, filter_at}
 use Rattle.cf_sync.proofs.Ranges.{filters_length}
 use Rattle.cf_answers.specs.declared.status.Status.{Status}
 use Rattle.cf_answers.specs.declared.status.Status.TheVariants.{NoHeight}
-use Rattle.cf_offline.specs.Reading.{filter_text, IsWritten, TellsFilter, TellsHeight}
+use Rattle.cf_answers.specs.Writing.{IsWritten}
+use Rattle.cf_offline.specs.Reading.{filter_text, TellsFilter, TellsHeight}
 
 above_by : (blocks : List Block) (height : ℕ) → filter_at blocks height ≡ None
     → ((x : Filtered) × (height < length (filters_of blocks)) × (filter_at blocks height ≡ Some x) × (get_or (filters_of blocks) height x ≡ x)) ⊎ ((length (filters_of blocks) ≤ height) × (filter_at blocks height ≡ None))

@@ -1,5 +1,4 @@
 pub mod Asking
-pub mod Counting
 pub mod FilterTexts
 pub mod ProofTexts
 pub mod Scans

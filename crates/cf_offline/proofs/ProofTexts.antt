@@ -39,7 +39,7 @@ use Rattle.cf_input.proofs.LineSteps.{before_true, before_false, after_true, aft
 use Rattle.cf_answers.specs.declared.status.Status.{Status}
 use Rattle.cf_answers.specs.declared.status.Status.TheVariants.{Done, NoMemory, Usage, BadFile, FileFault, OutFault, NoPeers, Tired, Ended, LinkFault, NoNonce, NoHeight, NotThere, NotAddress}
 use Rattle.cf_offline.specs.Proving.{proof_text, IsTextAt, IsProofText, in_text, Checks, Takes, TakesWhatIsProved}
-use Rattle.cf_offline.specs.Reading.{named_line, IsWritten}
+use Rattle.cf_answers.specs.Writing.{named_line, IsWritten}
 use Rattle.cf_loading.specs.Verdicts.{IsJudged, Good, proof_verdict}
 
 -- ---- lines of hexadecimal digits

@@ -7,7 +7,8 @@ use Rattle.cf_input.specs.WatchFile.{watch_of}
 use Rattle.cf_input.specs.declared.watch_file.WatchFileFault.{WatchFileFault}
 use Rattle.cf_answers.specs.declared.status.Status.{Status}
 use Rattle.cf_loading.specs.Scanning.{IsScanOf}
-use Rattle.cf_offline.specs.Reading.{IsWritten, Scans}
+use Rattle.cf_answers.specs.Writing.{IsWritten}
+use Rattle.cf_offline.specs.Reading.{Scans}
 
 -- the text of a scan is written
 pub scans_so : (status : Status) (before after : Option (List ℕ)) (w bytes text : List ℕ) (scripts : List (List ℕ)) → watch_of w ≡ Ok scripts → IsScanOf bytes scripts text

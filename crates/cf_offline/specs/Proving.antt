@@ -19,7 +19,8 @@ use Rattle.cf_input.specs.declared.proof_file.ProofFileFault.{ProofFileFault}
 use Rattle.cf_input.specs.declared.proof_file.Proven.{Proven}
 use Rattle.cf_answers.specs.declared.status.Status.{Status}
 use Rattle.cf_answers.specs.declared.status.Status.TheVariants.{Done, BadFile, OutFault, NotThere}
-use Rattle.cf_offline.specs.Reading.{named_line, IsWritten, IsUnwritten, IsOfScan, IsOfText}
+use Rattle.cf_answers.specs.Writing.{named_line, IsWritten, IsOfText}
+use Rattle.cf_offline.specs.Reading.{IsUnwritten, IsOfScan}
 
 -- ---- prove
 

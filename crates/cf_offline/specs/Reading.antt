@@ -4,7 +4,6 @@ use Rattle.std.specs.FinMap as finite
 use Rattle.hex.specs.Hex.{encode_lower}
 use Rattle.cf_bytes.specs.Files.{Named}
 use Rattle.cf_bytes.specs.Hash.{shown}
-use Rattle.cf_bytes.specs.Outside.{HasRisen, with_more}
 use Rattle.cf_block.specs.declared.tx.Block.{Block}
 use Rattle.cf_chain.specs.Filters.{Filtered, filter_at}
 use Rattle.cf_walk.specs.declared.cause.BadBlock.{BadBlock}
@@ -12,31 +11,14 @@ use Rattle.cf_walk.specs.Files.{blocks_at}
 use Rattle.cf_input.specs.Addresses.{IsOtherForm, HasNoForm}
 use Rattle.cf_input.specs.WatchFile.{watch_of}
 use Rattle.cf_input.specs.declared.watch_file.WatchFileFault.{WatchFileFault}
+use Rattle.cf_answers.specs.Writing.{IsOfText, IsWritten, named_line}
 use Rattle.cf_answers.specs.declared.status.Status.{Status}
 use Rattle.cf_answers.specs.declared.status.Status.TheVariants.{Done, NoMemory, BadFile, FileFault, OutFault, NoHeight, NotAddress}
 use Rattle.cf_loading.specs.Scanning.{scan_text}
 
--- how often the sink has failed, by the answer: more often where the sink is to blame for it, and not once more with any other answer
-pub record CountsOut (status : Status) (before after : ℕ) : Type 0 where
-  pub fault : status ≡ OutFault → HasRisen before after
-  pub fine : status ≢ OutFault → after ≡ before
-
--- NAME VALUE, ended by LF
-abbrev pub named_line : List ℕ → List ℕ → List ℕ
-named_line name value = name ++ (32 ∷ (value ++ 10 ∷ []))
-
 -- a line each for a block's hash, its filter and its filter header
 abbrev pub filter_text : Filtered → List ℕ
 filter_text f = named_line (codes "block") (shown f.block) ++ (named_line (codes "filter") (encode_lower f.filter) ++ named_line (codes "header") (shown f.header))
-
--- a command that has this text to write and no other answer: all of it was written, or the sink failed and a beginning of it was, or nothing
-abbrev pub IsWritten : Status → Option (List ℕ) → Option (List ℕ) → List ℕ → Type 0
-IsWritten Done before after text = after ≡ with_more before text
-IsWritten OutFault before after text = (n : ℕ) × (n ≤ length text) × (after ≡ with_more before (take n text))
-IsWritten NoMemory before after text = after ≡ before
-IsWritten FileFault before after text = after ≡ before
-IsWritten (BadFile which place cause) before after text = after ≡ before
-IsWritten status before after text = ⊥
 
 -- a command that was refused: nothing was written
 abbrev pub IsUnwritten : Status → Option (List ℕ) → Option (List ℕ) → Type 0
@@ -70,13 +52,6 @@ TellsHeight status before after blocks height false = TellsFilter status before 
 abbrev pub Filters : Status → Option (List ℕ) → Option (List ℕ) → ℕ → Result (List Block) BadBlock → Type 0
 Filters status before after height (Ok blocks) = TellsHeight status before after blocks height (nat_lt (length blocks) height)
 Filters status before after height (Err bad) = IsUnwritten status before after
-
--- the answers once the files are read
-abbrev pub IsOfText : Status → Type 0
-IsOfText Done = Unit {0}
-IsOfText NoMemory = Unit {0}
-IsOfText OutFault = Unit {0}
-IsOfText status = ⊥
 
 -- the answers to a height, once the file is read
 abbrev pub IsOfHeight : Status → Type 0

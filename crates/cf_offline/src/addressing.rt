@@ -1,11 +1,10 @@
 //! Addresses and scripts, told for one another.
 ghost use Rattle.std.specs.Prelude.{◌≡◌, ◌++◌, ◌∷◌, [], IfOk, false, string_bytes};
-ghost use Rattle.cf_offline.specs.Reading.{CountsOut, IsAddressed, IsOfText};
+ghost use Rattle.cf_answers.specs.{has_run, CountsOut};
+ghost use Rattle.cf_offline.specs.Reading.{IsAddressed};
 ghost use Rattle.cf_loading.specs.{IsJudged, no_file};
-ghost use Rattle.cf_answers.specs.{has_run};
 
-use crate::reading::write;
-use cf_answers::Status;
+use cf_answers::{Status, write};
 use cf_bytes::{NoMemory, Refused, Sink};
 use cf_input::other_form;
 use std::alloc::Global;

@@ -9,4 +9,4 @@ mod reading;
 pub use addressing::address;
 pub use making::make;
 pub use proving::{check, prove};
-pub use reading::{filter, hash_line, scan, write};
+pub use reading::{filter, scan};

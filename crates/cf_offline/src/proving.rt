@@ -7,14 +7,14 @@ ghost use Rattle.cf_bytes.specs.{IsRead, HasRisen};
 ghost use Rattle.cf_chain.specs.{IsGoodChain};
 ghost use Rattle.cf_conn.specs.{IsReadByParts};
 ghost use Rattle.cf_offline.specs.Proving.{proof_text, in_text, IsTextAt, GivesProofText, TellsProof, Checks, IsOfFind, IsOfProve, IsProved, IsChecked};
-ghost use Rattle.cf_offline.specs.Reading.{CountsOut, IsOfScan, IsOfText, IsWritten};
+ghost use Rattle.cf_answers.specs.{has_run, CountsOut, IsOfText, IsWritten};
+ghost use Rattle.cf_offline.specs.Reading.{IsOfScan};
 ghost use Rattle.cf_index.specs.{first_place, StandsAt};
 ghost use Rattle.cf_input.specs.{proof_file_of};
 ghost use Rattle.cf_loading.specs.{IsJudged, blocks_verdict, proof_verdict};
-ghost use Rattle.cf_answers.specs.{has_run};
 
-use crate::reading::{bytes_line, write};
-use cf_answers::Status;
+use crate::reading::bytes_line;
+use cf_answers::{Status, write};
 use cf_block::{Block, Tx, write_tx};
 use cf_bytes::{Files, Hash32, NoMemory, Sink, show};
 use cf_index::{CheckedChain, TxIndex};

@@ -2,15 +2,15 @@
 ghost use Rattle.std.specs.Prelude.{◌≡◌, ◌≢◌, [], ◌∷◌, false, length, nat_lt, IfOk, IfSome, option_map, string_bytes};
 ghost use Rattle.std.specs.FinMap as finite;
 ghost use Rattle.hex.specs.Hex.{encode_lower};
-ghost use Rattle.cf_bytes.specs.{shown, HasRisen};
+ghost use Rattle.cf_bytes.specs.{HasRisen};
 ghost use Rattle.cf_chain.specs.{filter_at as filter_in};
 ghost use Rattle.cf_conn.specs.{IsReadByParts};
 ghost use Rattle.cf_loading.specs.{AreRead, Whole, ByParts, IsJudged, and_then, watch_verdict, blocks_verdict};
-ghost use Rattle.cf_offline.specs.Reading.{CountsOut, IsFiltered, IsOfFilter, IsOfHeight, IsOfText, IsScanned, IsWritten, TellsHeight, filter_text, named_line};
-ghost use Rattle.cf_answers.specs.{has_run};
+ghost use Rattle.cf_answers.specs.{has_run, named_line, CountsOut};
+ghost use Rattle.cf_offline.specs.Reading.{IsFiltered, IsOfFilter, IsOfHeight, IsScanned, TellsHeight, filter_text};
 
-use cf_answers::Status;
-use cf_bytes::{Files, Hash32, NoMemory, Sink, put_all, show};
+use cf_answers::{Status, hash_line, line_of, write};
+use cf_bytes::{Files, Hash32, NoMemory, Sink};
 use cf_index::{CheckedChain, Index};
 use cf_loading::{load_chain, load_watch, scan_file};
 use std::alloc::Global;
@@ -21,21 +21,6 @@ fn digits_of(alloc: Global, bytes: &[u8]) -> Result<String, NoMemory>
     ensures { IfOk result (λ text. string_bytes text ≡ encode_lower bytes.now) }
 {
     Ok(hex::encode(alloc, bytes)?)
-}
-
-// A line of a name and a value.
-fn line_of(alloc: Global, name: &str, value: &str) -> Result<String, NoMemory>
-    ensures { IfOk result (λ text. string_bytes text ≡ named_line name.now value.now) }
-{
-    Ok(format!(in alloc; "{name} {value}\n")?)
-}
-
-/// A line of a name and a hash, as people read it: the name, a space, 64 lower-case hexadecimal digits, and LF.
-pub fn hash_line(alloc: Global, name: &str, hash: &Hash32) -> Result<String, NoMemory>
-    ensures { IfOk result (λ text. string_bytes text ≡ named_line name.now (shown hash.now.0)) }
-{
-    let value = show(alloc, hash)?;
-    line_of(alloc, name, value.as_str())
 }
 
 /// A line of a name and bytes, in hexadecimal.
@@ -77,22 +62,6 @@ fn text_at(alloc: Global, index: &Index, height: u32) -> Result<Option<String>, 
     };
     let text = text_of_filter(alloc, &block, filter, &header)?;
     Ok(Some(text))
-}
-
-/// Writes a whole text.
-///
-/// The answer is `Done` once all of it was written, and `OutFault` where the sink fails: a beginning of it was written
-/// then, or nothing.
-pub fn write<O: Sink>(text: &[u8], out: &mut O) -> Status
-    ensures written { IsWritten result (O.written out.old) (O.written out.new) text.now }
-    ensures unwritten { has_run result ≡ false → O.written out.new ≡ O.written out.old }
-    ensures counts { CountsOut result (O.faults out.old) (O.faults out.new) }
-    ensures ends { IsOfText result }
-{
-    match put_all(out, text) {
-        Ok(()) => Status::Done,
-        Err(_) => Status::OutFault,
-    }
 }
 
 /// Writes the history of the watched scripts in a file of blocks, and its tip. The watch file is read first.

@@ -4,8 +4,9 @@ use Rattle.std.specs.Int.{w64}
 use Rattle.std.specs.Prelude.{is_some}
 use Rattle.cf_run.specs.Names.{names_in}
 use Rattle.cf_cli.proofs.Plays.{watch_there}
-use Rattle.cf_offline.proofs.Counting.{counts_fine}
-use Rattle.cf_cli.proofs.Handed.{unrun_files, unrun_wires, run_files, run_wires}
+use Rattle.cf_loading.proofs.Counting.{counts_fine}
+use Rattle.cf_cli.proofs.Handed.{unrun_files, run_files}
+use Rattle.cf_cli_client.proofs.Wires.{runs_at, unrun_wires}
 use Rattle.cf_cli.proofs.Ends.{over_early}
 use Rattle.cf_cli.proofs.Stays.{early_tallied_on, early_told_on, told_over_watch_on}
 use Rattle.cf_cli.proofs.program.follow.Goals as goal
@@ -14,20 +15,23 @@ pub returns-in-Ok-clause-kept : goal.returns-in-Ok-clause-kept
 returns-in-Ok-clause-kept g c =
     told_over_watch_on (g.W.Wires.told c.follow_and_record.new.wires).log c.follow_and_record.result (is_some c.args.log_file.now) (g.F.Files.files c.args.files.now) c.args.watch.now c.in-Ok.scripts (names_in c.args.peers.now)
     (g.O.Sink.written c.args.out.now) (g.O.Sink.written c.follow_and_record.new.out) (g.O.Sink.faults c.args.out.now) (g.O.Sink.faults c.follow_and_record.new.out)
-    (watch_there (g.F.Files.files c.args.files.now) c.args.watch.now c.in-Ok.scripts c.in-Ok.ensures.good c.in-Ok.ensures.scripts) c.follow_and_record.ensures.kept c.follow_and_record.ensures.given_up
+    (watch_there (g.F.Files.files c.args.files.now) c.args.watch.now c.in-Ok.scripts c.in-Ok.ensures.good c.in-Ok.ensures.scripts) c.follow_and_record.ensures.ran.kept c.follow_and_record.ensures.ran.given_up
 
 pub returns-in-Err-clause-kept : goal.returns-in-Err-clause-kept
 returns-in-Err-clause-kept g c =
     early_told_on (g.W.Wires.told c.args.wires.now) c.in-Err.status (is_some c.args.log_file.now) (g.F.Files.files c.args.files.now) c.args.watch.now (names_in c.args.peers.now) (g.O.Sink.written c.args.out.now)
     (g.O.Sink.faults c.args.out.now) c.in-Err.ensures.only c.requires.wires.log
 
+pub returns-in-Ok-clause-tallied : goal.returns-in-Ok-clause-tallied
+returns-in-Ok-clause-tallied g c = c.follow_and_record.ensures.ran.tallied
+
 pub returns-in-Err-clause-tallied : goal.returns-in-Err-clause-tallied
 returns-in-Err-clause-tallied g c = early_tallied_on c.in-Err.status _ _ _ c.in-Err.ensures.only c.requires.wires.log
 
 pub returns-in-Ok-clause-files : goal.returns-in-Ok-clause-files
 returns-in-Ok-clause-files g c =
-    run_files c.set_up.new.files c.in-Ok.ensures.good c.set_up.ensures.same c.in-Ok.ensures.kept c.set_up.ensures.files c.follow_and_record.ensures.begun c.follow_and_record.ensures.written
-    c.follow_and_record.ensures.records c.follow_and_record.ensures.file_fault c.follow_and_record.ensures.file_fine
+    run_files c.set_up.new.files c.in-Ok.ensures.good c.set_up.ensures.same c.in-Ok.ensures.kept c.set_up.ensures.files c.follow_and_record.ensures.begun c.follow_and_record.ensures.files.written
+    c.follow_and_record.ensures.files.records c.follow_and_record.ensures.files.fault c.follow_and_record.ensures.files.fine
 
 pub returns-in-Err-clause-files : goal.returns-in-Err-clause-files
 returns-in-Err-clause-files g c =
@@ -35,9 +39,7 @@ returns-in-Err-clause-files g c =
     (counts_fine c.in-Err.status _ _ c.in-Err.ensures.count) c.set_up.ensures.files
 
 pub returns-in-Ok-clause-wires : goal.returns-in-Ok-clause-wires
-returns-in-Ok-clause-wires g c =
-    run_wires (to_z-of_z {w = w64} {z = c.args.moment} (search rules)) c.follow_and_record.ensures.dialled c.follow_and_record.ensures.versions c.follow_and_record.ensures.failures
-    c.follow_and_record.ensures.unkept c.follow_and_record.ensures.begun
+returns-in-Ok-clause-wires g c = runs_at (to_z-of_z {w = w64} {z = c.args.moment} (search rules)) c.follow_and_record.ensures.wires
 
 pub returns-in-Err-clause-wires : goal.returns-in-Err-clause-wires
 returns-in-Err-clause-wires g c = unrun_wires c.requires.wires

@@ -1,4 +1,4 @@
-use Rattle.cf_offline.proofs.Counting.{counts_fine}
+use Rattle.cf_loading.proofs.Counting.{counts_fine}
 use Rattle.cf_offline.proofs.proving.prove.Goals as goal
 
 pub returns-in-Err-clause-file_fine : goal.returns-in-Err-clause-file_fine

@@ -1,5 +1,5 @@
 use Rattle.std.proofs.Common.{◌∙◌}
-use Rattle.cf_offline.proofs.Counting.{counts_fine}
+use Rattle.cf_loading.proofs.Counting.{counts_fine}
 use Rattle.cf_offline.proofs.reading.scan.Goals as goal
 
 pub returns-in-Err-clause-file_fine : goal.returns-in-Err-clause-file_fine

@@ -1,5 +1,0 @@
-use Rattle.cf_cli.proofs.Retold.{retold}
-use Rattle.cf_cli.proofs.laws.laws_of_records.Goals as goal
-
-pub returns : goal.returns
-returns c = record { again = retold }

@@ -1,0 +1,6 @@
+//! The command that serves a file of blocks.
+#![tactic(auto)]
+
+mod serving;
+
+pub use serving::serve;
