@@ -1,12 +1,13 @@
 """Processor seconds of what `rt` runs, by crate and kind of work, sampled while it runs."""
+import contextlib
 import datetime
 import os
 import re
+import signal
 import subprocess
 import threading
 
 from crates import BUILD, TIMES, TOP, last_times
-from trial import let_end
 
 TICK = os.sysconf("SC_CLK_TCK")
 EVERY = 0.5
@@ -153,15 +154,18 @@ def partly(_crate, _kept):
 def sampled(command, words, folder, is_whole=over_kept, tell=None):
     """Runs a command, notes its times, and gives its status. With `tell`, each line that it writes goes there."""
     how = {"stdout": subprocess.PIPE, "stderr": subprocess.STDOUT, "errors": "replace", "text": True} if tell else {}
-    with subprocess.Popen(words, cwd=folder, stdin=subprocess.DEVNULL, **how) as run:
+    # Its own session, so that what ends this process can end the command with all that it has begun.
+    with subprocess.Popen(words, cwd=folder, stdin=subprocess.DEVNULL, start_new_session=True, **how) as run:
         sampler = Sampler(run.pid)
         sampler.start()
         try:
             for line in run.stdout if tell else ():
                 tell(line)
             status = run.wait()
-        except BaseException as fault:
-            let_end(run, fault)
+        except BaseException:
+            with contextlib.suppress(ProcessLookupError):
+                os.killpg(run.pid, signal.SIGTERM)
+            run.wait()
             raise
         finally:
             sampler.ends.set()
