@@ -7,6 +7,7 @@ import shutil
 import subprocess
 import sys
 import tempfile
+import threading
 from concurrent.futures import ThreadPoolExecutor
 
 import native
@@ -192,13 +193,15 @@ def try_one(crate, tell):
 
 def try_all(names):
     """The same of several crates, beside each other, each in a process of its own: whatever ends this one ends them and their tools."""
-    counts, begun = {}, []
+    counts, begun, is_ended = {}, [], threading.Event()
 
     def try_alone(crate):
         words = [sys.executable, os.path.join(TOP, "dev"), "test", crate]
         with subprocess.Popen(words, stdin=subprocess.DEVNULL, stdout=subprocess.PIPE, text=True, errors="replace") as run:
             begun.append(run)
             *lines, last = run.stdout.read().splitlines() or [""]
+        if is_ended.is_set():
+            return
         counted = COUNTED.fullmatch(last)
         counts[crate] = (int(counted[1]), int(counted[2])) if counted else (0, 1)
         print("\n".join([*lines, f"{crate}: {last if counted else 'FAILED: it was stopped'}"]), flush=True)
@@ -208,6 +211,7 @@ def try_all(names):
             for run in [pool.submit(try_alone, crate) for crate in names]:
                 run.result()
         except BaseException:
+            is_ended.set()
             pool.shutdown(wait=False, cancel_futures=True)
             for run in begun:
                 run.terminate()
