@@ -66,17 +66,28 @@ fn block_text(alloc: Global, block: &Block, bytes: &[u8]) -> Option<String> {
     checked(alloc, block)
 }
 
+// The same of the first block.
+fn genesis_text(alloc: Global) -> Option<String> {
+    let block = genesis(alloc).ok()?;
+    checked(alloc, &block)
+}
+
+// The same of bytes, or their fault.
+fn read_text(alloc: Global, bytes: &[u8]) -> Option<String> {
+    match parse_block(alloc, bytes) {
+        Ok(block) => block_text(alloc, &block, bytes),
+        Err(fault) => format!(in alloc; "{fault:?}").ok(),
+    }
+}
+
 /// What the check of the block of a row comes to, its hash and its transactions' hashes; or the block's fault.
 /// `genesis` is the first block.
 pub(crate) fn block(alloc: Global, row: &str) -> Option<String> {
     if row == "genesis" {
-        return checked(alloc, &genesis(alloc).ok()?);
+        return genesis_text(alloc);
     }
     let bytes = bytes_in(alloc, row)?;
-    match parse_block(alloc, &bytes) {
-        Ok(block) => block_text(alloc, &block, &bytes),
-        Err(fault) => format!(in alloc; "{fault:?}").ok(),
-    }
+    read_text(alloc, &bytes)
 }
 
 /// The same of the block that the bytes of a row store, with witnesses or without.

@@ -1,7 +1,7 @@
 //! What peers claim of the filters of blocks.
 ghost use Rattle.std.specs.Prelude.{◌≤◌};
 
-use crate::fields::{bytes_in, put_digits};
+use crate::fields::{bytes_in, put_digits, put_word};
 use cf_block::{block_hash, genesis_header};
 use cf_bytes::{Cut, Hash32, PeerNo, Refused};
 use cf_dispute::{At, ClaimFault, Claims, genesis_filter_header};
@@ -77,8 +77,8 @@ fn give(alloc: Global, claims: &mut Claims, fields: &str) -> Option<String> {
     if peer > 8 {
         return None;
     }
-    let blocks = hashes_in(alloc, blocks)?;
     let previous = hash_in(alloc, previous)?;
+    let blocks = hashes_in(alloc, blocks)?;
     let hashes = hashes_in(alloc, hashes)?;
     given(alloc, claims, PeerNo(peer), &blocks, &previous, &hashes)
 }
@@ -118,9 +118,7 @@ fn of(alloc: Global, claims: &Claims, fields: &str) -> Option<String> {
     let peer = PeerNo(peer.parse().ok()?);
     let block = hash_in(alloc, block)?;
     let mut text = hash_claimed(alloc, claims, peer, &block)?;
-    text.push(' ').ok()?;
-    text.push_str(&header_claimed(alloc, claims, peer, &block)?)
-        .ok()?;
+    put_word(&header_claimed(alloc, claims, peer, &block)?, &mut text)?;
     Some(text)
 }
 
@@ -144,13 +142,21 @@ fn put_step(alloc: Global, claims: &mut Claims, words: &str, out: &mut String) -
     out.push_str(&told).ok()
 }
 
+// What each of these steps comes to.
+fn told(alloc: Global, claims: &mut Claims, steps: &str) -> Option<String> {
+    let mut text = String::new(alloc);
+    for words in steps.split(';') {
+        put_step(alloc, claims, words, &mut text)?;
+    }
+    Some(text)
+}
+
 /// What each step of a row comes to, over claims with this filter header of the first block. All are parted by `;`.
 pub(crate) fn answer(alloc: Global, row: &str) -> Option<String> {
     let (first, steps) = row.split_once(';')?;
-    let mut claims = Claims::new(alloc, &hash_in(alloc, first)?).ok()?;
-    let mut text = String::new(alloc);
-    for words in steps.split(';') {
-        put_step(alloc, &mut claims, words, &mut text)?;
+    let first = hash_in(alloc, first)?;
+    match Claims::new(alloc, &first) {
+        Ok(mut claims) => told(alloc, &mut claims, steps),
+        Err(_) => None,
     }
-    Some(text)
 }

@@ -1,4 +1,5 @@
 //! The fields of rows.
+use cf_block::{Block, parse_block};
 use cf_bytes::{Cut, Hash32, show};
 use std::alloc::Global;
 
@@ -21,6 +22,11 @@ pub(crate) fn bytes_in(alloc: Global, field: &str) -> Option<Vec<u8>> {
         put_part(alloc, part, &mut bytes)?;
     }
     Some(bytes)
+}
+
+/// The block that a field spells in hexadecimal.
+pub(crate) fn block_in(alloc: Global, field: &str) -> Option<Block> {
+    parse_block(alloc, &bytes_in(alloc, field)?).ok()
 }
 
 /// Bytes in hexadecimal, or `-` where there is none.

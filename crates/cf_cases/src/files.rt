@@ -3,6 +3,7 @@ use crate::fields::{bytes_in, digits_of, put_hash, put_word};
 use cf_bytes::{Refused, show};
 use cf_index::{BareFilter, CheckedChain, Index, read_chain};
 use std::alloc::Global;
+use std::fmt::Write;
 use std::thread::Threads;
 
 // The bytes of a row's fields, joined.
@@ -14,18 +15,34 @@ fn joined(alloc: Global, row: &str) -> Option<Vec<u8>> {
     Some(bytes)
 }
 
-// Puts what an index tells of a height on a line of its own.
-fn put_height(alloc: Global, index: &Index, height: u32, out: &mut String) -> Option<()> {
+// Puts the height and the hash of the block at a height behind a text.
+fn put_place(alloc: Global, index: &Index, height: u32, out: &mut String) -> Option<()> {
     let hash = index.hash(height)?;
     let place = index.height_of(&hash)?;
-    let bits = index.header(height)?.bits;
-    let txs = index.block(height)?.txs.len();
-    out.push_str(&format!(in alloc; "\n{place}").ok()?).ok()?;
-    put_hash(alloc, &hash, out)?;
+    write!(out, "{place}").ok()?;
+    put_hash(alloc, &hash, out)
+}
+
+// Puts the filter at a height, its hash and its header behind a text.
+fn put_filter(alloc: Global, index: &Index, height: u32, out: &mut String) -> Option<()> {
     put_word(&digits_of(alloc, index.filter(height)?)?, out)?;
     put_hash(alloc, &index.filter_hash(height)?, out)?;
-    put_hash(alloc, &index.filter_header(height)?, out)?;
+    put_hash(alloc, &index.filter_header(height)?, out)
+}
+
+// Puts the bits and the number of transactions of the block at a height behind a text.
+fn put_block(alloc: Global, index: &Index, height: u32, out: &mut String) -> Option<()> {
+    let bits = index.header(height)?.bits;
+    let txs = index.block(height)?.txs.len();
     put_word(&format!(in alloc; "{bits:x} {txs}").ok()?, out)
+}
+
+// Puts what an index tells of a height on a line of its own.
+fn put_height(alloc: Global, index: &Index, height: u32, out: &mut String) -> Option<()> {
+    out.push('\n').ok()?;
+    put_place(alloc, index, height, out)?;
+    put_filter(alloc, index, height, out)?;
+    put_block(alloc, index, height, out)
 }
 
 fn told<R: Threads + Sync>(rt: &R, alloc: Global, chain: CheckedChain) -> Option<String> {

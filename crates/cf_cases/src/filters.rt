@@ -1,8 +1,8 @@
 //! Hashes of items, codes of values, and filters.
 ghost use Rattle.cf_golomb.specs.{HasSpelling};
 
-use crate::fields::{bytes_in, hash_in, put_digits, put_word};
-use cf_block::{Block, Script, block_hash, parse_block};
+use crate::fields::{block_in, bytes_in, hash_in, put_digits, put_word};
+use cf_block::{Block, Script, block_hash};
 use cf_bytes::{Cut, Hash32, Refused};
 use cf_filter::{Items, build, filter_hash, filter_header, items, lacks, matches, output_items};
 use cf_golomb::{decode, encode, meets};
@@ -67,14 +67,25 @@ fn shown(alloc: Global, set: &Items) -> Option<String> {
     Some(text)
 }
 
+// The items of a block whose inputs spend these scripts.
+fn set_in(alloc: Global, block: &str, spent: &str) -> Option<Items> {
+    let spent = scripts_in(alloc, spent)?;
+    let block = block_in(alloc, block)?;
+    items(alloc, &block, &spent).ok()
+}
+
+// The items of a set that are none of these scripts.
+fn left_of(alloc: Global, set: &Items, left_out: &str) -> Option<Items> {
+    let left_out = scripts_in(alloc, left_out)?;
+    set.without(alloc, &left_out).ok()
+}
+
 /// The items of a block whose inputs spend these scripts, without the last scripts of the row.
 pub(crate) fn items_left(alloc: Global, row: &str) -> Option<String> {
     let (block, scripts) = row.split_once(' ')?;
     let (spent, left_out) = scripts.split_once(' ')?;
-    let block = parse_block(alloc, &bytes_in(alloc, block)?).ok()?;
-    let set = items(alloc, &block, &scripts_in(alloc, spent)?).ok()?;
-    let left = set.without(alloc, &scripts_in(alloc, left_out)?).ok()?;
-    shown(alloc, &left)
+    let set = set_in(alloc, block, spent)?;
+    shown(alloc, &left_of(alloc, &set, left_out)?)
 }
 
 // Puts whether a filter of a block is none or lacks one of these items.
@@ -98,21 +109,33 @@ fn tested(alloc: Global, hash: &Hash32, set: &Items, filters: &str) -> Option<St
     Some(text)
 }
 
-/// The items of a block's outputs, and of each filter of a row whether it is none or lacks one of them.
-pub(crate) fn lacking(alloc: Global, row: &str) -> Option<String> {
-    let (block, filters) = row.split_once(' ')?;
-    let block = parse_block(alloc, &bytes_in(alloc, block)?).ok()?;
-    let set = output_items(alloc, &block).ok()?;
+// The items of this block's outputs, and of each filter whether it is none or lacks one of them.
+fn lacking_of(alloc: Global, block: &Block, filters: &str) -> Option<String> {
+    let set = output_items(alloc, block).ok()?;
     tested(alloc, &block_hash(&block.header), &set, filters)
 }
 
-// The filter of a block whose inputs spend these scripts.
+/// The items of a block's outputs, and of each filter of a row whether it is none or lacks one of them.
+pub(crate) fn lacking(alloc: Global, row: &str) -> Option<String> {
+    let (block, filters) = row.split_once(' ')?;
+    let block = block_in(alloc, block)?;
+    lacking_of(alloc, &block, filters)
+}
+
+// The filter of this block, whose inputs spend these scripts.
 fn filter_of(alloc: Global, block: &Block, spent: &[Script]) -> Option<Vec<u8>> {
     let set = items(alloc, block, spent).ok()?;
     if set.len() > 1000 {
         return None;
     }
     build(alloc, &block_hash(&block.header), &set).ok()
+}
+
+// The filter of a block whose inputs spend these scripts.
+fn filter_in(alloc: Global, block: &str, spent: &str) -> Option<Vec<u8>> {
+    let spent = scripts_in(alloc, spent)?;
+    let block = block_in(alloc, block)?;
+    filter_of(alloc, &block, &spent)
 }
 
 // A filter, its hash, and its header after this one.
@@ -130,9 +153,16 @@ fn filter_text(alloc: Global, filter: &[u8], before: &Hash32) -> Option<String> 
 pub(crate) fn answer(alloc: Global, row: &str) -> Option<String> {
     let (block, scripts) = row.split_once(' ')?;
     let (spent, before) = scripts.split_once(' ')?;
-    let block = parse_block(alloc, &bytes_in(alloc, block)?).ok()?;
-    let filter = filter_of(alloc, &block, &scripts_in(alloc, spent)?)?;
-    filter_text(alloc, &filter, &hash_in(alloc, before)?)
+    let before = hash_in(alloc, before)?;
+    let filter = filter_in(alloc, block, spent)?;
+    filter_text(alloc, &filter, &before)
+}
+
+// Whether a filter under a block's hash matches one of these scripts, or the first fault.
+fn matched_with(alloc: Global, hash: &Hash32, filter: &[u8], scripts: &[Script]) -> Option<String> {
+    let mut scratch = vec![in alloc; 0u64; scripts.len()].ok()?;
+    let answer = matches(hash, filter, scripts, &mut scratch);
+    format!(in alloc; "{answer:?}").ok()
 }
 
 /// Whether a filter under a block's hash matches one of the scripts of a row, or the first fault.
@@ -140,8 +170,7 @@ pub(crate) fn matched(alloc: Global, row: &str) -> Option<String> {
     let (hash, rest) = row.split_once(' ')?;
     let (filter, scripts) = rest.split_once(' ')?;
     let hash = hash_in(alloc, hash)?;
+    let filter = bytes_in(alloc, filter)?;
     let scripts = scripts_in(alloc, scripts)?;
-    let mut scratch = vec![in alloc; 0u64; scripts.len()].ok()?;
-    let answer = matches(&hash, &bytes_in(alloc, filter)?, &scripts, &mut scratch);
-    format!(in alloc; "{answer:?}").ok()
+    matched_with(alloc, &hash, &filter, &scripts)
 }

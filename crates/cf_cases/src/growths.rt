@@ -10,6 +10,7 @@ use cf_rows::Host;
 use std::alloc::Global;
 use std::marker::Model;
 use std::sync::{Arc, Mutex, Wait};
+use std::thread::Threads;
 
 // The most bytes that are written to a connection.
 const ROOM: usize = 4_000_000;
@@ -111,27 +112,59 @@ fn shown(alloc: Global, how: &Option<Ending>, conn: &MemoryConn) -> Option<Strin
     }
 }
 
+// A chain that grows on the made one that a text tells.
+fn grown_in<R: Threads + Sync>(
+    rt: &R,
+    alloc: Global,
+    chain: &str,
+) -> Option<Arc<Mutex<Grown>, Global>> {
+    let index = index_in(rt, alloc, chain)?;
+    Arc::new(alloc, Mutex::new(Grown::new(index))).ok()
+}
+
+// Both connections of a row.
+fn around_in<R: Wait + Copy + Drop>(
+    rt: R,
+    alloc: Global,
+    grown: &Arc<Mutex<Grown>, Global>,
+    row: &str,
+) -> Option<Around<R>> {
+    let (most, rest) = row.split_once(' ')?;
+    let (before, rest) = rest.split_once(' ')?;
+    let (within, around) = rest.split_once(' ')?;
+    let most: usize = most.parse().ok()?;
+    let before: u32 = before.parse().ok()?;
+    let grown = Arc::try_clone(grown).ok()?;
+    let conn = conn_in(alloc, around, most, ROOM)?;
+    let within = conn_in(alloc, within, most, ROOM)?;
+    Some(Around {
+        rt,
+        alloc,
+        grown,
+        conn,
+        within,
+        before,
+        how: None,
+    })
+}
+
+// How both connections ended, and what was written to them.
+fn both_shown<R: Wait + Copy + Drop>(
+    alloc: Global,
+    conn: &Around<R>,
+    how: Ending,
+) -> Option<String> {
+    let first = shown(alloc, &conn.how, &conn.within)?;
+    let second = shown(alloc, &Some(how), &conn.conn)?;
+    format!(in alloc; "{first}\n{second}").ok()
+}
+
 /// How two connections end over a chain that grows, and what is written. The first one is served whole, once so many
 /// reads of the second have come.
 pub(crate) fn answer<R: Host>(rt: R, alloc: Global, row: &str) -> Option<String> {
     let (chain, rest) = row.split_once(' ')?;
-    let (most, rest) = rest.split_once(' ')?;
-    let (before, rest) = rest.split_once(' ')?;
-    let (within, around) = rest.split_once(' ')?;
-    let grown = Mutex::new(Grown::new(index_in(&rt, alloc, chain)?));
-    let grown = Arc::new(alloc, grown).ok()?;
-    let most = most.parse().ok()?;
-    let mut conn = Around {
-        rt,
-        alloc,
-        grown: Arc::try_clone(&grown).ok()?,
-        conn: conn_in(alloc, around, most, ROOM)?,
-        within: conn_in(alloc, within, most, ROOM)?,
-        before: before.parse().ok()?,
-        how: None,
-    };
+    let grown = grown_in(&rt, alloc, chain)?;
+    let mut conn = around_in(rt, alloc, &grown, rest)?;
     let how = serve_grown(&rt, alloc, &grown, &Nobody, &mut conn, MOMENT, NONCE);
-    let first = shown(alloc, &conn.how, &conn.within)?;
-    let second = shown(alloc, &Some(how), &conn.conn)?;
-    format!(in alloc; "{first}\n{second}").ok()
+    both_shown(alloc, &conn, how)
 }

@@ -73,12 +73,22 @@ fn located_in<H: HeaderStore + Drop>(
     }
 }
 
+// The same over new lists.
+fn over_lists(alloc: Global, headers: &[Header]) -> Option<String> {
+    located_in(alloc, Lists::new(alloc).ok()?, headers)
+}
+
+// The same over a new tree.
+fn over_tree(alloc: Global, headers: &[Header]) -> Option<String> {
+    located_in(alloc, Tree::new(alloc).ok()?, headers)
+}
+
 /// The heights of the locator of the made chain that a row tells, over a store of lists and over a tree: one list of
 /// heights where they are the same, as they have to be.
 pub(crate) fn locator(alloc: Global, row: &str) -> Option<String> {
     let headers = headers_of(alloc, row)?;
-    let lists = located_in(alloc, Lists::new(alloc).ok()?, &headers)?;
-    let tree = located_in(alloc, Tree::new(alloc).ok()?, &headers)?;
+    let lists = over_lists(alloc, &headers)?;
+    let tree = over_tree(alloc, &headers)?;
     if lists == tree {
         Some(lists)
     } else {

@@ -42,22 +42,28 @@ fn add_peer(
     ensures { log_of played.new ≡ [] }
 {
     let (kind, chain) = text.split_once('=')?;
-    let kind = kind_in(alloc, kind)?;
-    let chain = chain_in(alloc, chain)?;
     if played.len() >= 8 {
         return None;
     }
+    let chain = chain_in(alloc, chain)?;
+    let kind = kind_in(alloc, kind)?;
     played.add(rt, &chain, kind).ok()
 }
 
-// The two peers of a field, of which the first is dialled.
-fn played_in(rt: &(impl Threads + Sync), alloc: Global, text: &str) -> Option<Played> {
+// Adds the two peers of a field, and dials the first.
+fn add_both(
+    rt: &(impl Threads + Sync),
+    alloc: Global,
+    played: &mut Played,
+    text: &str,
+) -> Option<()>
+    requires { log_of played.old ≡ [] }
+{
     let (first, second) = text.split_once(',')?;
-    let mut played = Played::new(alloc).ok()?;
-    add_peer(rt, alloc, &mut played, first)?;
-    add_peer(rt, alloc, &mut played, second)?;
+    add_peer(rt, alloc, played, first)?;
+    add_peer(rt, alloc, played, second)?;
     played.dial("any name").ok()?;
-    Some(played)
+    Some(())
 }
 
 fn put_delivery(alloc: Global, d: &Delivery, out: &mut String) -> Option<()> {
@@ -81,13 +87,19 @@ fn put_step(alloc: Global, played: &mut Played, step: &str, out: &mut String) ->
     played.send(PeerNo(number.parse().ok()?), &bytes).ok()
 }
 
+// The deliveries that these steps take.
+fn told(alloc: Global, played: &mut Played, steps: &str) -> Option<String> {
+    let mut out = String::new(alloc);
+    for step in steps.split(' ') {
+        put_step(alloc, played, step, &mut out)?;
+    }
+    Some(out)
+}
+
 /// The deliveries that the steps of a row take.
 pub(crate) fn answer(rt: &(impl Threads + Sync), alloc: Global, row: &str) -> Option<String> {
     let (peers, steps) = row.split_once(' ')?;
-    let mut played = played_in(rt, alloc, peers)?;
-    let mut out = String::new(alloc);
-    for step in steps.split(' ') {
-        put_step(alloc, &mut played, step, &mut out)?;
-    }
-    Some(out)
+    let mut played = Played::new(alloc).ok()?;
+    add_both(rt, alloc, &mut played, peers)?;
+    told(alloc, &mut played, steps)
 }

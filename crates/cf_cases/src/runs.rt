@@ -29,14 +29,25 @@ fn blocks_in(alloc: Global, field: &str) -> Option<Vec<u8>> {
     }
 }
 
-// The files of a row: `w`, `s` and `f`.
-fn files_of(alloc: Global, watch: &str, session: &str, blocks: &str) -> Option<MapFiles> {
-    let mut files = MapFiles::new(alloc);
+// Puts the files of a row: `w`, `s` and `f`.
+fn put_files(
+    alloc: Global,
+    files: &mut MapFiles,
+    watch: &str,
+    session: &str,
+    blocks: &str,
+) -> Option<()> {
     let watch = file_in(alloc, watch)?;
     files.write(alloc, "w", watch.as_bytes()).ok()?;
     files.write(alloc, "s", session.as_bytes()).ok()?;
     let blocks = blocks_in(alloc, blocks)?;
-    files.write(alloc, "f", &blocks).ok()?;
+    files.write(alloc, "f", &blocks).ok()
+}
+
+// The files of a row.
+fn files_of(alloc: Global, watch: &str, session: &str, blocks: &str) -> Option<MapFiles> {
+    let mut files = MapFiles::new(alloc);
+    put_files(alloc, &mut files, watch, session, blocks)?;
     Some(files)
 }
 
@@ -54,50 +65,87 @@ pub(crate) fn wires_of(alloc: Global, session: &str, failing: &str) -> Option<Me
     Some(wires)
 }
 
-// What stands under the name `r`, or nothing.
-fn record_of(alloc: Global, files: &mut MapFiles) -> Option<String> {
+// Puts what stands under the name `r` behind a text, if anything does.
+fn put_record(alloc: Global, files: &mut MapFiles, out: &mut String) -> Option<()> {
     match files.read(alloc, "r", 1_000_000) {
-        Ok(bytes) => String::from_utf8(bytes).ok(),
-        Err(FileFail::Failed) => Some(String::new(alloc)),
+        Ok(bytes) => out.push_str(str::from_utf8(&bytes).ok()?).ok(),
+        Err(FileFail::Failed) => Some(()),
         Err(_) => None,
     }
 }
 
-// What stands under the name `b` in hexadecimal, or nothing.
-fn blocks_of(alloc: Global, files: &mut MapFiles) -> Option<String> {
+// Puts what stands under the name `b` behind a text in hexadecimal, if anything does.
+fn put_blocks(alloc: Global, files: &mut MapFiles, out: &mut String) -> Option<()> {
     match files.read(alloc, "b", 1_000_000) {
-        Ok(bytes) => hex::encode(alloc, &bytes).ok(),
-        Err(FileFail::Failed) => Some(String::new(alloc)),
+        Ok(bytes) => out.push_str(&hex::encode(alloc, &bytes).ok()?).ok(),
+        Err(FileFail::Failed) => Some(()),
         Err(_) => None,
     }
+}
+
+// Puts what a call has written to files behind a text.
+fn put_written(alloc: Global, files: &mut MapFiles, out: &mut String) -> Option<()> {
+    put_record(alloc, files, out)?;
+    put_blocks(alloc, files, out)
 }
 
 // The answer to these words, over these wires, by this spawner, into a sink with so much room.
-fn finished<R: Host>(
+fn told<R: Host>(
     rt: R,
     alloc: Global,
     words: &[String],
-    mut files: MapFiles,
-    mut wires: MemoryWires,
-    mut spawner: Limited<R>,
+    files: &mut MapFiles,
+    wires: &mut MemoryWires,
+    spawner: &mut Limited<R>,
     room: usize,
 ) -> Option<String>
-    requires { (log_of wires ≡ []) × (finished_of wires ≡ false) }
+    requires { (log_of wires.old ≡ []) × (finished_of wires.old ≡ false) }
 {
-    let told = answered(
+    let mut link = no_link(alloc)?;
+    answered(
         rt,
         alloc,
         words,
         (0, 0),
         room,
-        &mut files,
-        &mut wires,
-        &mut no_link(alloc)?,
-        &mut spawner,
-    )?;
-    let record = record_of(alloc, &mut files)?;
-    let blocks = blocks_of(alloc, &mut files)?;
-    format!(in alloc; "{told}{record}{blocks}").ok()
+        files,
+        wires,
+        &mut link,
+        spawner,
+    )
+}
+
+// That answer, and what is written to files.
+fn finished<R: Host>(
+    rt: R,
+    alloc: Global,
+    words: &[String],
+    files: &mut MapFiles,
+    wires: &mut MemoryWires,
+    spawner: &mut Limited<R>,
+    room: usize,
+) -> Option<String>
+    requires { (log_of wires.old ≡ []) × (finished_of wires.old ≡ false) }
+{
+    let mut text = told(rt, alloc, words, files, wires, spawner, room)?;
+    put_written(alloc, files, &mut text)?;
+    Some(text)
+}
+
+// The same over the wires of a session, of which these calls fail, and with what is done with tasks.
+fn finished_over<R: Host>(
+    rt: R,
+    alloc: Global,
+    words: &[String],
+    files: &mut MapFiles,
+    session: &str,
+    failing: &str,
+    way: &str,
+    room: usize,
+) -> Option<String> {
+    let mut spawner = spawner_in(rt, way)?;
+    let mut wires = wires_of(alloc, session, failing)?;
+    finished(rt, alloc, words, files, &mut wires, &mut spawner, room)
 }
 
 // The answer over the wires of a session, where the first field tells the room, the calls of the wires that fail, and
@@ -107,17 +155,15 @@ fn answered_over<R: Host>(
     alloc: Global,
     limits: &str,
     words: &[String],
-    mut files: MapFiles,
+    files: &mut MapFiles,
     session: &str,
 ) -> Option<String> {
     let (room, failing) = limits.split_once(' ')?;
     let (failing, rest) = failing.split_once('/').unwrap_or((failing, "-"));
     let (unread, way) = rest.split_once('/').unwrap_or((rest, "threads"));
     let room = room.parse().ok()?;
-    let spawner = spawner_in(rt, way)?;
-    let wires = wires_of(alloc, session, failing)?;
     files.failing(&numbers_in(alloc, unread)?).ok()?;
-    finished(rt, alloc, words, files, wires, spawner, room)
+    finished_over(rt, alloc, words, files, session, failing, way, room)
 }
 
 // The call of a row's fields: the room, the calls of the wires that fail, the words, and the files.
@@ -132,8 +178,8 @@ fn called<R: Host>(
 ) -> Option<String> {
     let words = texts_in(alloc, words, ' ')?;
     let session = file_in(alloc, session)?;
-    let files = files_of(alloc, watch, &session, blocks)?;
-    answered_over(rt, alloc, limits, &words, files, &session)
+    let mut files = files_of(alloc, watch, &session, blocks)?;
+    answered_over(rt, alloc, limits, &words, &mut files, &session)
 }
 
 /// How `replay` of a session ends, and what it writes, with the watch file of a field.
@@ -144,10 +190,8 @@ pub(crate) fn replayed<R: Host>(
     session: &str,
 ) -> Option<String> {
     let words = texts_in(alloc, "cf replay w s", ' ')?;
-    let files = files_of(alloc, watch, session, "-")?;
-    let wires = MemoryWires::new(alloc).ok()?;
-    let spawner = spawner_in(rt, "threads")?;
-    finished(rt, alloc, &words, files, wires, spawner, 5000)
+    let mut files = files_of(alloc, watch, session, "-")?;
+    finished_over(rt, alloc, &words, &mut files, "", "-", "threads", 5000)
 }
 
 /// How the call of a row ends, and what it writes.

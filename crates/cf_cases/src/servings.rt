@@ -47,28 +47,27 @@ fn shown(alloc: Global, ended: &str, given: &[(MemoryEnd, u8)]) -> Option<String
     Some(text)
 }
 
-// The answer to these words over a link, and how each of its connections did. The wires dial nobody.
-fn served<R: Host>(
+// The answer to these words over a link. The wires dial nobody.
+fn told<R: Host>(
     rt: R,
     alloc: Global,
     words: &[String],
-    mut files: MapFiles,
-    mut link: ListLink<MemoryConn>,
-    mut spawner: Limited<R>,
+    files: &mut MapFiles,
+    link: &mut ListLink<MemoryConn>,
+    spawner: &mut Limited<R>,
 ) -> Option<String> {
     let mut wires = MemoryWires::new(alloc).ok()?;
-    let text = answered(
+    answered(
         rt,
         alloc,
         words,
         (MOMENT, NONCE),
         0,
-        &mut files,
+        files,
         &mut wires,
-        &mut link,
-        &mut spawner,
-    )?;
-    shown(alloc, text.as_str(), link.given())
+        link,
+        spawner,
+    )
 }
 
 // A link to the connections of a row, some of whose calls fail.
@@ -78,12 +77,40 @@ fn link_in(alloc: Global, failing: &str, asked: &str) -> Option<ListLink<MemoryC
     Some(link)
 }
 
-// The file `f` of a row. These calls of the files fail.
-fn files_in(alloc: Global, blocks: &str, failing: &str) -> Option<MapFiles> {
-    let mut files = MapFiles::new(alloc);
+// Puts the file `f` of a row. These calls of the files fail.
+fn put_file(alloc: Global, blocks: &str, failing: &str, files: &mut MapFiles) -> Option<()> {
     files.write(alloc, "f", &bytes_in(alloc, blocks)?).ok()?;
-    files.failing(&numbers_in(alloc, failing)?).ok()?;
-    Some(files)
+    files.failing(&numbers_in(alloc, failing)?).ok()
+}
+
+// The answer to these words over the file of a row.
+fn told_of<R: Host>(
+    rt: R,
+    alloc: Global,
+    words: &[String],
+    blocks: &str,
+    failing: &str,
+    link: &mut ListLink<MemoryConn>,
+    spawner: &mut Limited<R>,
+) -> Option<String> {
+    let mut files = MapFiles::new(alloc);
+    put_file(alloc, blocks, failing, &mut files)?;
+    told(rt, alloc, words, &mut files, link, spawner)
+}
+
+// The answer to a call over a link, where a field tells what is done with tasks.
+fn answered_by<R: Host>(
+    rt: R,
+    alloc: Global,
+    way: &str,
+    words: &str,
+    blocks: &str,
+    failing: &str,
+    link: &mut ListLink<MemoryConn>,
+) -> Option<String> {
+    let mut spawner = spawner_in(rt, way)?;
+    let words = texts_in(alloc, words, ' ')?;
+    told_of(rt, alloc, &words, blocks, failing, link, &mut spawner)
 }
 
 // The call of a row's fields: what is done with tasks, which calls of the link and behind a `/` of the files fail, the
@@ -98,11 +125,9 @@ fn called<R: Host>(
 ) -> Option<String> {
     let (way, failing) = limits.split_once(' ')?;
     let (failing, unread) = failing.split_once('/').unwrap_or((failing, "-"));
-    let spawner = spawner_in(rt, way)?;
-    let link = link_in(alloc, failing, asked)?;
-    let files = files_in(alloc, blocks, unread)?;
-    let words = texts_in(alloc, words, ' ')?;
-    served(rt, alloc, &words, files, link, spawner)
+    let mut link = link_in(alloc, failing, asked)?;
+    let text = answered_by(rt, alloc, way, words, blocks, unread, &mut link)?;
+    shown(alloc, text.as_str(), link.given())
 }
 
 /// How the call of a row ends, and how each of its connections did.

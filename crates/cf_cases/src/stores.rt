@@ -1,5 +1,6 @@
 //! Sessions that are followed over each store of chains, and over wires that fail.
-ghost use Rattle.std.specs.Prelude.{◌≡◌, ℕ, None};
+ghost use Rattle.std.specs.Prelude.{◌≡◌, ◌≤◌, ℕ, None, IfSome, [], length, false};
+ghost use Rattle.cf_wires.specs.{log_of, finished_of};
 
 use crate::fields::file_in;
 use crate::runs::wires_of;
@@ -10,6 +11,7 @@ use cf_input::{read_session, read_watch};
 use cf_lists::Lists;
 use cf_match::Plain;
 use cf_run::{Outcome, sync_over};
+use cf_wires::MemoryWires;
 use std::alloc::Global;
 
 // How many headers, claims, filters, verdicts and extracts a client keeps.
@@ -36,6 +38,69 @@ fn shown(alloc: Global, outcome: &Outcome) -> Option<String> {
     format!(in alloc; "{end:?} {counts}\n{text}").ok()
 }
 
+// The outcome over a store of what these wires give, with these names of peers and the scripts of a watch file.
+fn outcome_over<H: HeaderStore + Drop>(
+    alloc: Global,
+    store: H,
+    watch: &str,
+    names: &[String],
+    wires: &mut MemoryWires,
+) -> Option<Outcome>
+    requires empty { (q : ℕ) → H.chain store q ≡ None }
+    requires few { length names.now ≤ 8 }
+    requires wires { (log_of wires.old ≡ []) × (finished_of wires.old ≡ false) }
+{
+    match read_watch(alloc, watch.as_bytes()) {
+        Ok(watch) => sync_over(
+            alloc,
+            wires,
+            names,
+            watch,
+            store,
+            Plain::new(alloc),
+            0,
+            0,
+            1_000_000,
+        )
+        .ok(),
+        Err(_) => None,
+    }
+}
+
+// The same over the wires of a session. These calls of theirs fail.
+fn outcome_with<H: HeaderStore + Drop>(
+    alloc: Global,
+    store: H,
+    watch: &str,
+    names: &[String],
+    session: &str,
+    failing: &str,
+) -> Option<Outcome>
+    requires empty { (q : ℕ) → H.chain store q ≡ None }
+    requires few { length names.now ≤ 8 }
+{
+    let mut wires = wires_of(alloc, session, failing)?;
+    outcome_over(alloc, store, watch, names, &mut wires)
+}
+
+// The names of the peers of a session, at most eight.
+fn names_in(alloc: Global, session: &str) -> Option<Vec<String>>
+    ensures { IfSome result (λ names. length names.items ≤ 8) }
+{
+    if session.len() >= 1_000_000 {
+        return None;
+    }
+    match read_session(alloc, session.as_bytes()) {
+        Ok(session) => {
+            if session.names.len() > 8 {
+                return None;
+            }
+            Some(session.names)
+        }
+        Err(_) => None,
+    }
+}
+
 // The outcome of a session over a store. These calls of the wires fail.
 fn outcome_of<H: HeaderStore + Drop>(
     alloc: Global,
@@ -46,28 +111,8 @@ fn outcome_of<H: HeaderStore + Drop>(
 ) -> Option<Outcome>
     requires { (q : ℕ) → H.chain store q ≡ None }
 {
-    let mut wires = wires_of(alloc, session, failing)?;
-    let watch = read_watch(alloc, watch.as_bytes()).ok()?;
-    if session.len() >= 1_000_000 {
-        return None;
-    }
-    let session = read_session(alloc, session.as_bytes()).ok()?;
-    let names = session.names.as_slice();
-    if names.len() > 8 {
-        return None;
-    }
-    sync_over(
-        alloc,
-        &mut wires,
-        names,
-        watch,
-        store,
-        Plain::new(alloc),
-        0,
-        0,
-        1_000_000,
-    )
-    .ok()
+    let names = names_in(alloc, session)?;
+    outcome_with(alloc, store, watch, names.as_slice(), session, failing)
 }
 
 // What comes of a session over a store.
@@ -95,14 +140,19 @@ fn over_tree(alloc: Global, watch: &str, session: &str) -> Option<String> {
     followed(alloc, store, watch, session)
 }
 
+// The same over each.
+fn over_both(alloc: Global, watch: &str, session: &str) -> Option<String> {
+    let lists = over_lists(alloc, watch, session)?;
+    let tree = over_tree(alloc, watch, session)?;
+    format!(in alloc; "lists {lists}tree {tree}").ok()
+}
+
 /// What comes of a row's session with its watched scripts: over a store of lists, and over a tree.
 pub(crate) fn answer(alloc: Global, row: &str) -> Option<String> {
     let (watch, session) = row.split_once('|')?;
     let watch = file_in(alloc, watch)?;
     let session = file_in(alloc, session)?;
-    let lists = over_lists(alloc, &watch, &session)?;
-    let tree = over_tree(alloc, &watch, &session)?;
-    format!(in alloc; "lists {lists}tree {tree}").ok()
+    over_both(alloc, &watch, &session)
 }
 
 // How a run ended, its trace, and the history and the tip where it is synced.

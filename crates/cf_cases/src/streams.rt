@@ -39,14 +39,19 @@ fn put_frames(alloc: Global, framer: &mut Framer, out: &mut String) -> Option<()
     None
 }
 
+// Puts the frames of these pieces, as they come.
+fn put_pieces(alloc: Global, framer: &mut Framer, pieces: &str, out: &mut String) -> Option<()> {
+    for piece in pieces.split(' ') {
+        framer.feed(&bytes_in(alloc, piece)?).ok()?;
+        put_frames(alloc, framer, out)?;
+    }
+    Some(())
+}
+
 /// The frames of a row's pieces, as they come.
 pub(crate) fn answer(alloc: Global, row: &str) -> Option<String> {
-    let mut framer = Framer::new(alloc);
     let mut out = String::new(alloc);
-    for piece in row.split(' ') {
-        framer.feed(&bytes_in(alloc, piece)?).ok()?;
-        put_frames(alloc, &mut framer, &mut out)?;
-    }
+    put_pieces(alloc, &mut Framer::new(alloc), row, &mut out)?;
     Some(out)
 }
 
@@ -85,23 +90,33 @@ fn put_end(alloc: Global, framer: &Framer, out: &mut String) -> Option<()> {
     }
 }
 
-/// How many of a row's bytes a framer takes in each call of `fill`.
-pub(crate) fn filled(alloc: Global, row: &str) -> Option<String> {
-    let (most, digits) = row.split_once(' ')?;
-    let most: usize = most.parse().ok()?;
-    let bytes = bytes_in(alloc, digits)?;
-    let mut framer = Framer::new(alloc);
-    let mut out = String::new(alloc);
-    let mut rest = bytes.as_slice();
+// Puts how many of these bytes a framer takes in each call of `fill`, and what waits at the end.
+fn put_fills(
+    alloc: Global,
+    framer: &mut Framer,
+    bytes: &[u8],
+    most: usize,
+    out: &mut String,
+) -> Option<()> {
+    let mut rest = bytes;
     for _call in 0..bytes.len() {
         let piece = rest.get(..most).unwrap_or(rest);
-        let taken = fill_once(alloc, &mut framer, piece, &mut out)?;
-        let_go(alloc, &mut framer, &bytes, &mut out)?;
+        let taken = fill_once(alloc, framer, piece, out)?;
+        let_go(alloc, framer, bytes, out)?;
         rest = rest.get(taken..)?;
         if taken == 0 || rest.is_empty() {
             break;
         }
     }
-    put_end(alloc, &framer, &mut out)?;
+    put_end(alloc, framer, out)
+}
+
+/// How many of a row's bytes a framer takes in each call of `fill`.
+pub(crate) fn filled(alloc: Global, row: &str) -> Option<String> {
+    let (most, digits) = row.split_once(' ')?;
+    let most: usize = most.parse().ok()?;
+    let bytes = bytes_in(alloc, digits)?;
+    let mut out = String::new(alloc);
+    put_fills(alloc, &mut Framer::new(alloc), &bytes, most, &mut out)?;
     Some(out)
 }

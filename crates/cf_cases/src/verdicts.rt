@@ -38,10 +38,16 @@ fn jobs_in(alloc: Global, fields: &str) -> Option<Vec<Job>> {
     Some(jobs)
 }
 
+// The scripts of a field, which are watched.
+fn watch_in(alloc: Global, field: &str) -> Option<Watch> {
+    let scripts = scripts_in(alloc, field)?;
+    Watch::new(alloc, &scripts).ok()
+}
+
 /// The verdicts on filters for blocks, where these scripts are watched.
 pub(crate) fn answer(alloc: Global, row: &str) -> Option<String> {
     let (scripts, filters) = row.split_once(' ')?;
-    let watch = Watch::new(alloc, &scripts_in(alloc, scripts)?).ok()?;
     let jobs = jobs_in(alloc, filters)?;
+    let watch = watch_in(alloc, scripts)?;
     judged(alloc, &mut Plain::new(alloc), &jobs, &watch)
 }
