@@ -8,6 +8,7 @@ use cf_cli_host::Edge;
 use cf_grow::Nobody;
 use cf_rows::{Host, shown};
 use cf_tasks::{InThreads, Spawner};
+use cf_tell::Teller;
 use std::sync::Wait;
 use std::thread::Threads;
 
@@ -22,7 +23,8 @@ fn followed<R: Wait + Threads + Sync + Copy + Drop + Send + 'static, K: Spawner>
     let alloc = rt.alloc();
     let mut link = ToldLink::new(rt, count(alloc)?);
     let mut out = VecSink::new(alloc, 7, 1000).ok()?;
-    let Ok(mut edge) = Edge::new(&rt, handle, spawner, MOST_PEERS) else {
+    let teller = Teller::kept(rt).ok()?;
+    let Ok(mut edge) = Edge::new(teller, handle, spawner, MOST_PEERS) else {
         return None;
     };
     let status = run(
