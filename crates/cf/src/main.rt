@@ -54,10 +54,15 @@ fn run_command<R: Wait + Threads + Sync + Copy + Drop + Send + 'static, K: Spawn
     let Ok(dials) = read_dials(alloc, words) else {
         return told(teller, words, Status::NoMemory, &None);
     };
-    let Ok(mut edge) = Edge::new(teller, handle, spawner, dials.peers) else {
+    let Ok(edge) = Edge::new(teller, handle, spawner, dials.peers) else {
         return told(teller, words, Status::NoMemory, &None);
     };
-    tell_changes(&mut edge.network, dials.stays);
+    let Edge {
+        mut network,
+        mut tape,
+        mut played,
+    } = edge;
+    tell_changes(&mut network, dials.stays);
     let mut files = StdFiles::new(&rt);
     let mut ends = Vec::new(alloc);
     let status = run(
@@ -68,15 +73,15 @@ fn run_command<R: Wait + Threads + Sync + Copy + Drop + Send + 'static, K: Spawn
         moment(&rt),
         nonce(&rt),
         &mut files,
-        &mut edge.network,
-        &mut edge.tape,
-        &mut edge.played,
+        &mut network,
+        &mut tape,
+        &mut played,
         &mut Listener::new(teller),
         spawner,
         &mut WriterSink::new(io::writer(&rt)),
         &mut ends,
     );
-    let _told = tell_stands(teller, &status, &ends, &edge.network);
+    let _told = tell_stands(teller, &status, &ends, &network);
     told(teller, words, status, &files.reason())
 }
 
