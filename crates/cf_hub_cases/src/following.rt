@@ -24,9 +24,14 @@ fn followed<R: Wait + Threads + Sync + Copy + Drop + Send + 'static, K: Spawner>
     let mut link = ToldLink::new(rt, count(alloc)?);
     let mut out = VecSink::new(alloc, 7, 1000).ok()?;
     let teller = Teller::kept(rt).ok()?;
-    let Ok(mut edge) = Edge::new(teller, handle, spawner, MOST_PEERS) else {
+    let Ok(edge) = Edge::new(teller, handle, spawner, MOST_PEERS) else {
         return None;
     };
+    let Edge {
+        mut network,
+        mut tape,
+        mut played,
+    } = edge;
     let status = run(
         handle,
         alloc,
@@ -35,9 +40,9 @@ fn followed<R: Wait + Threads + Sync + Copy + Drop + Send + 'static, K: Spawner>
         0,
         0,
         files,
-        &mut edge.network,
-        &mut edge.tape,
-        &mut edge.played,
+        &mut network,
+        &mut tape,
+        &mut played,
         &mut link,
         spawner,
         &mut out,
