@@ -1,9 +1,11 @@
 #!/usr/bin/env python3
-"""Many connections to `serve`, over loopback: `crowd.py [PROGRAM]`, where PROGRAM is `.build/cf` unless it is named. Three cases, one after another:
+"""Many connections to `serve`, over loopback: `crowd.py [PROGRAM]`, where PROGRAM is `.build/cf` unless it is named. Five cases, one after another:
 
     threads    a server that may have few threads has more silent peers than these; all leave but the one that found no thread, and then a peer comes
     ended      one connection stays, and many come and go; the server's memory and its maps may not grow with these
     memory     one connection stays, and for a second no memory is found; a peer comes then, and one comes afterwards
+    deaf       nobody reads standard error, and many connections come and go; then it is read, and one line tells how many were not written
+    joins      the same of a server whose chain grows, by blocks that join
 
 A peer that comes is to be answered: its version by the server's. How the connections ended is to be told in the order in which they were accepted. The
 figures are printed, and the status is 1 where one is above its bound, or a case ends otherwise than it says.
@@ -20,7 +22,8 @@ import sys
 import tempfile
 import time
 
-from conversation import THEIR_VERSION
+from conversation import THEIR_VERSION, frame
+from grow import Stream, records
 from network import BENCH, ROOT, Run, comes
 
 # A user that has no process.
@@ -29,6 +32,8 @@ USER = 54321
 THREADS, SILENT = 20, 25
 # The connections that come and go, and how much the server may grow by them.
 SHORT, MAPS, BYTES = 5000, 100, 16 << 20
+# The connections that come and go, and the blocks that join, while nobody reads standard error: more than a pipe has room for.
+DEAF, BLOCKS = 4000, 3000
 # For how long no memory is found, in seconds, and how long a peer waits for its answer at most.
 WANT, WAIT = 1, 20
 
@@ -167,6 +172,90 @@ def memory(program, blocks, folder):
         server.end()
 
 
+def read_now(pipe):
+    """What stands in a pipe now."""
+    os.set_blocking(pipe.fileno(), False)
+    found = b""
+    while part := pipe.read(1 << 16):
+        found += part
+    os.set_blocking(pipe.fileno(), True)
+    return found.decode()
+
+
+class Deaf:
+    """A server whose standard error is a pipe that nobody reads, once it has told where it listens."""
+
+    def __init__(self, program, *words):
+        self.process = subprocess.Popen([program, *words, "127.0.0.1:0"], stdin=subprocess.DEVNULL, stdout=subprocess.DEVNULL, stderr=subprocess.PIPE, bufsize=0)
+        self.first = ""
+        while "cf: serving" not in self.first:
+            line = self.process.stderr.readline().decode()
+            if not line:
+                raise SystemExit("it does not serve: " + self.first)
+            self.first += line
+        place = re.search(r"listening on (\S+):(\d+)", self.first)
+        self.place = (place.group(1), int(place.group(2)))
+
+    peer, is_answered = Server.peer, Server.is_answered
+
+    def faults(self, line, wanted):
+        """What is otherwise than wanted of the lines that it tells: what stands in the pipe is read, a peer comes, and the server ends."""
+        before = read_now(self.process.stderr)
+        with self.peer() as last:
+            found = [] if self.is_answered(last) else [f"a peer that came was not answered within {WAIT} seconds"]
+        try:
+            after = self.process.communicate(timeout=WAIT * 10)[1].decode()
+        except subprocess.TimeoutExpired:
+            return found + ["it has not ended"]
+        written, unwritten = len(re.findall(line, before + after, re.M)), re.findall(r"^cf: (\d+) lines? w\w+ not written$", after, re.M)
+        print(f"    {written} lines were written; told as not written: {', '.join(unwritten) or 'none'}")
+        found += [] if self.process.returncode == 0 else [f"status {self.process.returncode}"]
+        found += [] if unwritten else ["no line tells how many were not written"]
+        found += [] if written + sum(map(int, unwritten)) == wanted else [f"{wanted} lines were to be written or counted"]
+        return found + ([] if after.startswith("cf: ") and "not written" in after.split("\n")[0] else ["that is not the first line after the pipe was read"])
+
+
+def come_and_go(server, count):
+    """How many of so many peers, one after another, are answered."""
+    for answered in range(count):
+        try:
+            with server.peer() as peer:
+                if not server.is_answered(peer):
+                    return answered
+        except OSError:
+            return answered
+    return count
+
+
+def deaf(program, blocks, folder):
+    server = Deaf(program, "serve", "--connections", str(DEAF + 1), blocks)
+    try:
+        start, answered = time.monotonic(), come_and_go(server, DEAF)
+        print(f"    {answered} of {DEAF} connections were answered, in {time.monotonic() - start:.1f} s")
+        return ["a peer was not answered"] if answered < DEAF else server.faults(r"^cf: connection \d+: ", DEAF + 1)
+    finally:
+        server.process.kill()
+
+
+def joins(program, blocks, folder):
+    file, made = os.path.join(folder, "base"), list(records((7, BLOCKS + 2)))
+    with open(file, "wb") as base:
+        base.writelines(made[:2])
+    server = Deaf(program, "serve", "--grow", "--connections", "2", file)
+    try:
+        start, stream = time.monotonic(), Stream(f"{server.place[0]}:{server.place[1]}")
+        stream.socket.settimeout(WAIT)
+        try:
+            stream.says(b"".join(frame("block", record[8:]) for record in made[2:]))
+        except OSError:
+            return ["the blocks were not taken"]
+        print(f"    {BLOCKS} blocks were taken in {time.monotonic() - start:.1f} s")
+        stream.socket.close()
+        return server.faults(r"^cf: block \d+ has joined$|^cf: connection \d+: ", BLOCKS + 2)
+    finally:
+        server.process.kill()
+
+
 def main():
     program = os.path.abspath(sys.argv[1]) if len(sys.argv) > 1 else os.path.join(ROOT, ".build", "cf")
     bad = False
@@ -177,7 +266,7 @@ def main():
         os.chmod(copy, 0o755)
         shutil.copy(os.path.join(ROOT, "data", "blocks.dat"), blocks)
         os.chmod(blocks, 0o644)
-        for case in (threads, ended, memory):
+        for case in (threads, ended, memory, deaf, joins):
             found = case(copy, blocks, folder)
             bad = bad or bool(found)
             print("\n    ".join([f"{case.__name__}: {'otherwise' if found else 'as it should be'}"] + found), flush=True)

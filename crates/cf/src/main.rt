@@ -13,6 +13,7 @@ use cf_cli_host::{
 };
 use cf_network::Network;
 use cf_tasks::{InThreads, Spawner};
+use cf_tell::Teller;
 use std::io;
 use std::process::ExitCode;
 use std::sync::Wait;
@@ -27,8 +28,8 @@ fn say(rt: &HostRuntime, text: &str) -> Status {
 }
 
 // Tells what went wrong. Where standard error can't be written, the exit status alone tells it.
-fn told(rt: &HostRuntime, words: &[String], status: Status, reason: &Option<io::Error>) -> Status {
-    let _told = tell(rt, words, &status, reason);
+fn told(teller: &Teller, words: &[String], status: Status, reason: &Option<io::Error>) -> Status {
+    let _told = tell(teller, words, &status, reason);
     status
 }
 
@@ -43,49 +44,59 @@ fn tell_changes<R: Wait + Threads + Copy + Drop>(network: &mut Network<R>, stays
 
 // Runs the command. `sync` and `follow` go over TCP.
 fn run_command<R: Wait + Threads + Sync + Copy + Drop + Send + 'static, K: Spawner>(
-    rt: &HostRuntime,
+    teller: &'static Teller,
     handle: R,
     words: &[String],
     spawner: &mut K,
 ) -> Status {
+    let rt = teller.runtime();
     let alloc = rt.alloc();
     let Ok(dials) = read_dials(alloc, words) else {
-        return told(rt, words, Status::NoMemory, &None);
+        return told(teller, words, Status::NoMemory, &None);
     };
-    let Ok(mut edge) = Edge::new(rt, handle, spawner, dials.peers) else {
-        return told(rt, words, Status::NoMemory, &None);
+    let Ok(edge) = Edge::new(teller, handle, spawner, dials.peers) else {
+        return told(teller, words, Status::NoMemory, &None);
     };
-    tell_changes(&mut edge.network, dials.stays);
-    let mut files = StdFiles::new(rt);
+    let Edge {
+        mut network,
+        mut tape,
+        mut played,
+    } = edge;
+    tell_changes(&mut network, dials.stays);
+    let mut files = StdFiles::new(&rt);
     let mut ends = Vec::new(alloc);
     let status = run(
         handle,
         alloc,
-        Joined::new(*rt),
+        Joined::new(teller),
         words,
-        moment(rt),
-        nonce(rt),
+        moment(&rt),
+        nonce(&rt),
         &mut files,
-        &mut edge.network,
-        &mut edge.tape,
-        &mut edge.played,
-        &mut Listener::new(*rt),
+        &mut network,
+        &mut tape,
+        &mut played,
+        &mut Listener::new(teller),
         spawner,
-        &mut WriterSink::new(io::writer(rt)),
+        &mut WriterSink::new(io::writer(&rt)),
         &mut ends,
     );
-    let _told = tell_stands(rt, &status, &ends, &edge.network);
-    told(rt, words, status, &files.reason())
+    let _told = tell_stands(teller, &status, &ends, &network);
+    told(teller, words, status, &files.reason())
 }
 
 fn main(rt: HostRuntime) -> ExitCode {
     hold(&rt);
+    let Ok(teller) = Teller::kept(rt) else {
+        return ExitCode::from(told(&Teller::new(rt), &[], Status::NoMemory, &None).code());
+    };
     let status = match words_of(&rt) {
         Ok(words) => match own_text(&words) {
-            Some(text) => told(&rt, &words, say(&rt, text), &None),
-            None => run_command(&rt, rt, &words, &mut InThreads::new(rt)),
+            Some(text) => told(teller, &words, say(&rt, text), &None),
+            None => run_command(teller, rt, &words, &mut InThreads::new(rt)),
         },
-        Err(status) => told(&rt, &[], status, &None),
+        Err(status) => told(teller, &[], status, &None),
     };
+    teller.tell_unwritten();
     ExitCode::from(status.code())
 }

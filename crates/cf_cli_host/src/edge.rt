@@ -8,6 +8,7 @@ use cf_bytes::NoMemory;
 use cf_network::Network;
 use cf_played::Played;
 use cf_tasks::Spawner;
+use cf_tell::Teller;
 use cf_wires::MemoryWires;
 use std::sync::Wait;
 use std::thread::Threads;
@@ -25,7 +26,7 @@ impl<R: Wait + Threads + Copy + Drop + Send + 'static> Edge<R> {
     /// All of it new. For each of so many peers a thread waits, and one for the ticker, or the spawner's count of
     /// refusals rose; where there are none no thread is started.
     pub fn new<K: Spawner>(
-        rt: &HostRuntime,
+        teller: &'static Teller,
         handle: R,
         spawn: &mut K,
         peers: usize,
@@ -44,10 +45,11 @@ impl<R: Wait + Threads + Copy + Drop + Send + 'static> Edge<R> {
         ensures played_keeps { IfOk result (λ e. has_kept e.played ≡ false) }
         ensures played_finished { IfOk result (λ e. has_finished e.played ≡ false) }
     {
-        let tape = MemoryWires::new(rt.alloc())?;
-        let played = Played::new(rt.alloc())?;
+        let alloc = teller.runtime().alloc();
+        let tape = MemoryWires::new(alloc)?;
+        let played = Played::new(alloc)?;
         Ok(Edge {
-            network: Network::new(rt, handle, spawn, peers)?,
+            network: Network::new(teller, handle, spawn, peers)?,
             tape,
             played,
         })

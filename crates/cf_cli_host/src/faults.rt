@@ -2,13 +2,14 @@
 use crate::reasons::tell_unread;
 use cf_answers::Status;
 use cf_input::mistake_text;
+use cf_tell::Teller;
 use std::io;
 
 // Tells what is wrong with the words.
-fn tell_mistake(rt: &HostRuntime, words: &[String], status: &Status) -> io::Result<()> {
-    match mistake_text(rt.alloc(), words) {
-        Ok(text) => eprint!(rt; "{text}"),
-        Err(_) => eprintln!(rt; "cf: {status}"),
+fn tell_mistake(teller: &Teller, words: &[String], status: &Status) -> io::Result<()> {
+    match mistake_text(teller.runtime().alloc(), words) {
+        Ok(text) => eprint!(teller; "{text}"),
+        Err(_) => eprintln!(teller; "cf: {status}"),
     }
 }
 
@@ -32,17 +33,17 @@ fn hint(status: &Status, name: &str) -> &'static str {
 /// Tells on standard error what went wrong, if anything has. The first word is the program's name; there is none where
 /// the words can't be read. `reason` is why the last call over a file failed.
 pub fn tell(
-    rt: &HostRuntime,
+    teller: &Teller,
     words: &[String],
     status: &Status,
     reason: &Option<io::Error>,
 ) -> io::Result<()> {
     match status {
         Status::Done => Ok(()),
-        Status::Usage if !words.is_empty() => tell_mistake(rt, words, status),
-        Status::FileFault => tell_unread(rt, words, status, reason),
+        Status::Usage if !words.is_empty() => tell_mistake(teller, words, status),
+        Status::FileFault => tell_unread(teller, words, status, reason),
         // What is told of the peers says it.
         Status::NoPeers { .. } => Ok(()),
-        _ => eprintln!(rt; "cf: {status}{}", hint(status, name_of(words))),
+        _ => eprintln!(teller; "cf: {status}{}", hint(status, name_of(words))),
     }
 }

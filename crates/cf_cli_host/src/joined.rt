@@ -1,22 +1,23 @@
 //! What is told of the chain of `serve --grow`.
 use cf_grow::Joins;
+use cf_tell::Teller;
 
 /// Tells on standard error the height of each block that joins the chain. Where standard error can't be written nothing
 /// is told.
 #[derive(Clone, Copy)]
 pub struct Joined {
-    rt: HostRuntime,
+    teller: &'static Teller,
 }
 
 impl Joined {
     /// Nothing was told.
-    pub fn new(rt: HostRuntime) -> Joined {
-        Joined { rt }
+    pub fn new(teller: &'static Teller) -> Joined {
+        Joined { teller }
     }
 }
 
 impl Joins for Joined {
     fn joined(&self, height: u32) {
-        let _told = eprintln!(&self.rt; "cf: block {height} has joined");
+        let _told = eprintln!(self.teller; "cf: block {height} has joined");
     }
 }

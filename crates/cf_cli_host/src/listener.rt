@@ -3,6 +3,7 @@ ghost use Rattle.std.specs.Prelude.{◌≡◌, ◌-◌, None};
 
 use cf_bytes::{Failed, Hash32, show};
 use cf_link::{Link, TcpConn, TcpEnd, TcpLink};
+use cf_tell::Teller;
 use std::io;
 
 /// A listener over TCP. It tells on standard error where it listens, which chain is served, and how each connection
@@ -10,17 +11,17 @@ use std::io;
 /// any more.
 #[derive(Drop)]
 pub struct Listener {
-    rt: HostRuntime,
-    link: TcpLink<HostRuntime>,
+    teller: &'static Teller,
+    link: TcpLink<&'static Teller>,
     told: u64,
 }
 
 impl Listener {
     /// A listener that doesn't listen yet.
-    pub fn new(rt: HostRuntime) -> Listener {
+    pub fn new(teller: &'static Teller) -> Listener {
         Listener {
-            rt,
-            link: TcpLink::new(rt),
+            teller,
+            link: TcpLink::new(teller),
             told: 0,
         }
     }
@@ -28,7 +29,7 @@ impl Listener {
     // Tells where it listens.
     fn tell_place(&self) -> io::Result<()> {
         match self.link.local_addr() {
-            Some(place) => eprintln!(&self.rt; "cf: listening on {place}"),
+            Some(place) => eprintln!(self.teller; "cf: listening on {place}"),
             None => Ok(()),
         }
     }
@@ -36,16 +37,21 @@ impl Listener {
     // Tells why a call failed.
     fn tell_reason(&self, what: &str) -> io::Result<()> {
         match self.link.reason() {
-            Some(reason) => eprintln!(&self.rt; "cf: {what}: {reason}"),
+            Some(reason) => eprintln!(self.teller; "cf: {what}: {reason}"),
             None => Ok(()),
         }
     }
 
+    // Tells how the connection ended that is told of now.
+    fn tell_end(&self, how: u8) -> io::Result<()> {
+        eprintln!(self.teller; "cf: connection {}: {}", self.told, way(how))
+    }
+
     // Tells the tip of the chain.
     fn tell_tip(&self, height: u32, tip: &Hash32) -> io::Result<()> {
-        match show(self.rt.alloc(), tip) {
-            Ok(hash) => eprintln!(&self.rt; "cf: serving {height} {hash}"),
-            Err(_) => eprintln!(&self.rt; "cf: serving {height}"),
+        match show(self.teller.runtime().alloc(), tip) {
+            Ok(hash) => eprintln!(self.teller; "cf: serving {height} {hash}"),
+            Err(_) => eprintln!(self.teller; "cf: serving {height}"),
         }
     }
 }
@@ -106,7 +112,7 @@ impl Link for Listener {
 
     fn give_back(&mut self, end: TcpEnd, how: u8) {
         self.told = self.told.saturating_add(1);
-        let _told = eprintln!(&self.rt; "cf: connection {}: {}", self.told, way(how));
+        let _told = self.tell_end(how);
         self.link.give_back(end, how);
     }
 }

@@ -1,6 +1,7 @@
 //! Which file of a command could not be read or written, and why.
 use cf_answers::Status;
 use cf_input::{Command, read_words};
+use cf_tell::Teller;
 use std::fs;
 use std::io::{self, Read};
 
@@ -50,52 +51,54 @@ fn file_written(command: &Command) -> Option<&str> {
 }
 
 // Tells why a file can't be read, and whether there was something to tell.
-fn tell_reason(rt: &HostRuntime, name: Option<&str>) -> Option<io::Result<()>> {
+fn tell_reason(teller: &Teller, name: Option<&str>) -> Option<io::Result<()>> {
     let name = name?;
-    let e = reason(rt, name)?;
-    Some(eprintln!(rt; "cf: {name} could not be read: {e}"))
+    let e = reason(&teller.runtime(), name)?;
+    Some(eprintln!(teller; "cf: {name} could not be read: {e}"))
 }
 
 // Tells why the file that a command writes could not be written, where that is known.
 fn tell_unwritten(
-    rt: &HostRuntime,
+    teller: &Teller,
     name: Option<&str>,
     status: &Status,
     reason: &Option<io::Error>,
 ) -> io::Result<()> {
     match (name, reason) {
-        (Some(name), Some(reason)) => eprintln!(rt; "cf: {name} could not be written: {reason}"),
-        _ => eprintln!(rt; "cf: {status}"),
+        (Some(name), Some(reason)) => eprintln!(teller;
+            "cf: {name} could not be written: {reason}"
+        ),
+        _ => eprintln!(teller; "cf: {status}"),
     }
 }
 
 // Tells which file of a command could not be read or written: the first that can't be read now, else the one that it
 // writes.
 fn tell_file(
-    rt: &HostRuntime,
+    teller: &Teller,
     command: &Command,
     status: &Status,
     reason: &Option<io::Error>,
 ) -> io::Result<()> {
     let (first, second) = files_read(command);
-    if let Some(told) = tell_reason(rt, first) {
+    if let Some(told) = tell_reason(teller, first) {
         return told;
     }
-    if let Some(told) = tell_reason(rt, second) {
+    if let Some(told) = tell_reason(teller, second) {
         return told;
     }
-    tell_unwritten(rt, file_written(command), status, reason)
+    tell_unwritten(teller, file_written(command), status, reason)
 }
 
 /// Tells which file could not be read or written, and why. `reason` is why the last call over a file failed.
 pub(crate) fn tell_unread(
-    rt: &HostRuntime,
+    teller: &Teller,
     words: &[String],
     status: &Status,
     reason: &Option<io::Error>,
 ) -> io::Result<()> {
-    match read_words(rt.alloc(), words) {
-        Ok(command) => tell_file(rt, &command, status, reason),
-        Err(_) => eprintln!(rt; "cf: {status}"),
+    match read_words(teller.runtime().alloc(), words) {
+        Ok(command) => tell_file(teller, &command, status, reason),
+        Err(_) => eprintln!(teller; "cf: {status}"),
     }
 }

@@ -8,6 +8,7 @@ use cf_cli_host::Edge;
 use cf_grow::Nobody;
 use cf_rows::{Host, shown};
 use cf_tasks::{InThreads, Spawner};
+use cf_tell::Teller;
 use std::sync::Wait;
 use std::thread::Threads;
 
@@ -22,9 +23,15 @@ fn followed<R: Wait + Threads + Sync + Copy + Drop + Send + 'static, K: Spawner>
     let alloc = rt.alloc();
     let mut link = ToldLink::new(rt, count(alloc)?);
     let mut out = VecSink::new(alloc, 7, 1000).ok()?;
-    let Ok(mut edge) = Edge::new(&rt, handle, spawner, MOST_PEERS) else {
+    let teller = Teller::kept(rt).ok()?;
+    let Ok(edge) = Edge::new(teller, handle, spawner, MOST_PEERS) else {
         return None;
     };
+    let Edge {
+        mut network,
+        mut tape,
+        mut played,
+    } = edge;
     let status = run(
         handle,
         alloc,
@@ -33,9 +40,9 @@ fn followed<R: Wait + Threads + Sync + Copy + Drop + Send + 'static, K: Spawner>
         0,
         0,
         files,
-        &mut edge.network,
-        &mut edge.tape,
-        &mut edge.played,
+        &mut network,
+        &mut tape,
+        &mut played,
         &mut link,
         spawner,
         &mut out,

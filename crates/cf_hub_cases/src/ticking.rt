@@ -8,6 +8,7 @@ use cf_link::Link;
 use cf_network::Network;
 use cf_rows::Host;
 use cf_tasks::InThreads;
+use cf_tell::Teller;
 use cf_wires::{Delivery, Wires};
 use std::rt::Clock;
 use std::sync::Wait;
@@ -47,7 +48,8 @@ fn two_ticks<R: Wait + Threads + Copy + Drop + Send + 'static>(
     idle: u64,
 ) -> Option<bool> {
     let mut spawner = InThreads::new(handle);
-    let Ok(mut network) = Network::new(rt, handle, &mut spawner, 1) else {
+    let teller = Teller::kept(*rt).ok()?;
+    let Ok(mut network) = Network::new(teller, handle, &mut spawner, 1) else {
         return None;
     };
     let _peer = network.dial(name);

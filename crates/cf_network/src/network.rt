@@ -11,6 +11,7 @@ use crate::pulse::{Asker, Bell, Naps};
 use cf_bytes::{NoMemory, PeerNo};
 use cf_hub::Hub;
 use cf_tasks::{Spawner, Workers};
+use cf_tell::Teller;
 use cf_wires::{Delivery, WireFail, Wires};
 use std::alloc::Global;
 use std::io::{self, IsTerminal};
@@ -26,7 +27,7 @@ use std::time::Clock;
 /// made.
 #[derive(Drop)]
 pub struct Network<R: Wait + Threads + Copy + Drop> {
-    rt: HostRuntime,
+    teller: &'static Teller,
     hub: Hub<SystemDialer, Naps<R>, R>,
     // Whether standard error is one.
     on_terminal: bool,
@@ -81,7 +82,7 @@ impl<R: Wait + Threads + Copy + Drop + Send + 'static> Network<R> {
     /// Peers of whom none was dialled. For each of so many a thread waits, and one for the ticker, or the spawner's
     /// count of refusals rose; where there are none no thread is started.
     pub fn new<K: Spawner>(
-        rt: &HostRuntime,
+        teller: &'static Teller,
         handle: R,
         spawner: &mut K,
         peers: usize,
@@ -91,11 +92,12 @@ impl<R: Wait + Threads + Copy + Drop + Send + 'static> Network<R> {
         ensures keeps { IfOk result (λ n. n.keeps ≡ false) }
         ensures threads { IfOk result (λ n. HasThreads peers n (K.refusals spawner.old) (K.refusals spawner.new)) }
     {
+        let rt = teller.runtime();
         let bell = Arc::new(rt.alloc(), Bell::new())?;
-        let pulse = Naps::new(*rt, handle, Arc::try_clone(&bell)?);
+        let pulse = Naps::new(rt, handle, Arc::try_clone(&bell)?);
         Ok(Network {
-            rt: *rt,
-            hub: hub_of(rt, handle, pulse, spawner, peers)?,
+            teller,
+            hub: hub_of(&rt, handle, pulse, spawner, peers)?,
             on_terminal: rt.stderr().is_terminal(),
             at_once: false,
             asker: Asker::new(bell),
@@ -108,14 +110,14 @@ impl<R: Wait + Threads + Copy + Drop> Network<R> {
     // Tells of a dial that failed. `known` is how many reasons were known before.
     fn tell_failed(&self, name: &str, known: usize) -> io::Result<()> {
         match self.hub.dialer().failed().get(known) {
-            Some(failed) => eprintln!(&self.rt; "cf: {failed}"),
-            None => eprintln!(&self.rt; "cf: {name}: it could not be dialled"),
+            Some(failed) => eprintln!(self.teller; "cf: {failed}"),
+            None => eprintln!(self.teller; "cf: {name}: it could not be dialled"),
         }
     }
 
     // Tells how far it has come.
     fn tell_progress(&self, progress: Progress) -> io::Result<()> {
-        eprintln!(&self.rt;
+        eprintln!(self.teller;
             "cf: peers connected: {}; best height: {}; filters: {}; blocks: {}",
             progress.connected, progress.height, progress.filters, progress.blocks
         )
@@ -128,7 +130,7 @@ impl<R: Wait + Threads + Copy + Drop> Network<R> {
         if !self.on_terminal {
             return;
         }
-        if let Some(progress) = self.passed.news(self.rt.monotonic().ok()) {
+        if let Some(progress) = self.passed.news(self.teller.monotonic().ok()) {
             let _told = self.tell_progress(progress);
         }
     }
@@ -139,8 +141,8 @@ impl<R: Wait + Threads + Copy + Drop> Network<R> {
             return Ok(());
         }
         match self.passed.stand(p) {
-            Some(Stand::Connected) => eprintln!(&self.rt; "cf: peer {}: connected", p.0),
-            Some(stand) => eprintln!(&self.rt;
+            Some(Stand::Connected) => eprintln!(self.teller; "cf: peer {}: connected", p.0),
+            Some(stand) => eprintln!(self.teller;
                 "cf: peer {}: {stand}; peers left: {}",
                 p.0,
                 self.passed.connected()
@@ -187,7 +189,7 @@ impl<R: Wait + Threads + Copy + Drop> Network<R> {
     /// Tells how a peer stands, if it was dialled.
     pub fn tell_stand(&self, p: PeerNo) -> io::Result<()> {
         match self.passed.stand(p) {
-            Some(stand) => eprintln!(&self.rt; "cf: peer {}: {stand}", p.0),
+            Some(stand) => eprintln!(self.teller; "cf: peer {}: {stand}", p.0),
             None => Ok(()),
         }
     }
