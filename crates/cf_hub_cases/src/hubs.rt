@@ -120,6 +120,20 @@ fn step<W: Wires + Joins + Drop>(
     }
 }
 
+// What steps come to in a course.
+fn told<W: Wires + Joins + Drop>(
+    rt: &HostRuntime,
+    course: &mut Course<W>,
+    counts: &Counts,
+    steps: &str,
+) -> Option<String> {
+    let mut out = String::new(rt.alloc());
+    for one in steps.split(' ') {
+        step(rt, course, counts, one, &mut out)?;
+    }
+    Some(out)
+}
+
 // What steps come to over these wires.
 fn played<W: Wires + Joins + Drop>(
     rt: &HostRuntime,
@@ -131,11 +145,7 @@ fn played<W: Wires + Joins + Drop>(
     requires running { (W.told wires).finished ≡ false }
 {
     let mut course = Course::new(rt.alloc(), wires);
-    let mut out = String::new(rt.alloc());
-    for one in steps.split(' ') {
-        step(rt, &mut course, counts, one, &mut out)?;
-    }
-    Some(out)
+    told(rt, &mut course, counts, steps)
 }
 
 // What the steps of a row come to over a hub.

@@ -1,5 +1,5 @@
 //! A chain that the program serves over TCP, and follows, in one process.
-use crate::doors::{count, same};
+use crate::doors::{Count, count, same};
 use crate::following::follow;
 use crate::port::listening;
 use crate::serving::serve;
@@ -14,6 +14,25 @@ fn is_done(told: &Option<String>) -> bool {
     }
 }
 
+// What the calls that follow come to, once somebody listens at a port that is told.
+fn followed<R: Host>(
+    rt: HostRuntime,
+    handle: R,
+    words: &str,
+    watch: &str,
+    port: &Count,
+) -> Option<String> {
+    let number = listening(&rt, port)?;
+    follow(rt, handle, words, watch, number)
+}
+
+// That text, and behind it whether the call that serves has ended well.
+fn with_word(mut text: String, told: &Option<String>) -> Option<String> {
+    text.push_str(if is_done(told) { "served" } else { "unserved" })
+        .ok()?;
+    Some(text)
+}
+
 // What the calls that follow come to, and whether the one that serves ends with `Done` and writes nothing.
 fn both<R: Host>(
     rt: HostRuntime,
@@ -26,10 +45,10 @@ fn both<R: Host>(
     let port = count(rt.alloc())?;
     let theirs = same(&port)?;
     let server = thread::spawn(&handle, move || serve(rt, handle, serving, blocks, theirs)).ok()?;
-    let text = follow(rt, handle, words, watch, listening(&rt, &port)?)?;
-    let told = server.join(&handle);
-    let word = if is_done(&told) { "served" } else { "unserved" };
-    format!(in rt.alloc(); "{text}{word}").ok()
+    match followed(rt, handle, words, watch, &port) {
+        Some(text) => with_word(text, &server.join(&handle)),
+        None => None,
+    }
 }
 
 /// What the calls of a row come to: each that follows, and whether the one that serves ends with `Done`.

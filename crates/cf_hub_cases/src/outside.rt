@@ -204,7 +204,6 @@ fn conn_in(alloc: Global, name: &str, plan: Plan) -> Option<MemoryConn>
     let mut conn = MemoryConn::new(alloc, bytes, plan.most, unused);
     if matches!(plan.way, Way::Fault) {
         conn.failing_reads(&[u64::from(plan.wanted)]).ok()?;
-        return Some(conn);
     }
     Some(conn)
 }
@@ -240,11 +239,13 @@ impl PlannedDialer {
         ensures { IfSome result (λ s. (s.ended ≡ false) × (s.conn.source.plan.faults ≡ 0)) }
     {
         let door = self.door_of(plan, own)?;
+        let reads = same(&self.reads)?;
+        let vain = same(&self.vain)?;
         Some(PlannedSource {
             conn: conn_in(self.alloc, name, plan)?,
             door,
-            reads: same(&self.reads)?,
-            vain: same(&self.vain)?,
+            reads,
+            vain,
             ended: false,
         })
     }

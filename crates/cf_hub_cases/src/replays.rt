@@ -18,20 +18,25 @@ fn session_in(alloc: Global, lines: &str) -> Option<Session>
     read_session(alloc, lines.as_bytes()).ok()
 }
 
+// The lines of a course in which all of these are dialled, and all deliveries are taken.
+fn taken(course: &mut Course<MemoryWires>, names: &[String]) -> Option<String> {
+    for name in names {
+        course.dial(name.as_str())?;
+    }
+    course.take(Until::End)?;
+    course.session()
+}
+
 /// The lines that wires in memory record, which give what these lines say: all are dialled, and all deliveries are
 /// taken.
 pub(crate) fn replayed(alloc: Global, lines: &str) -> Option<String> {
+    let mut wires = MemoryWires::new(alloc).ok()?;
     let Session {
         names,
         dials,
         deliveries,
     } = session_in(alloc, lines)?;
-    let mut wires = MemoryWires::new(alloc).ok()?;
     wires.load(dials, deliveries);
     let mut course = Course::new(alloc, wires);
-    for name in &names {
-        course.dial(name.as_str())?;
-    }
-    course.take(Until::End)?;
-    course.session()
+    taken(&mut course, &names)
 }

@@ -6,6 +6,8 @@ use crate::held::{Held, Numbers};
 use crate::outside::Counts;
 use crate::row::{watch_in, words_in};
 use cf_bytes::MapFiles;
+use cf_conn::MemoryConn;
+use cf_link::ListLink;
 use cf_rows::{Host, answered, no_link};
 use cf_tasks::InThreads;
 use cf_wires::Wires;
@@ -18,8 +20,9 @@ fn wires_in<R: Host>(rt: HostRuntime, handle: R, numbers: &str) -> Option<Held<R
 {
     let (threads, rest) = numbers.split_once(' ')?;
     let (starts, wanted) = rest.split_once(' ')?;
+    let numbers = Numbers::read(threads, starts, wanted)?;
     let counts = Counts::new(rt.alloc())?;
-    Held::new(rt, handle, &counts, Numbers::read(threads, starts, wanted)?)
+    Held::new(rt, handle, &counts, numbers)
 }
 
 // The answer to these words over these wires, and what was written.
@@ -29,6 +32,7 @@ fn finished<R: Host, W: Wires + Drop>(
     words: &[String],
     files: &mut MapFiles,
     mut wires: W,
+    link: &mut ListLink<MemoryConn>,
 ) -> Option<String>
     requires new { Tells [] (W.told wires) }
     requires running { (W.told wires).finished ≡ false }
@@ -41,7 +45,7 @@ fn finished<R: Host, W: Wires + Drop>(
         1000,
         files,
         &mut wires,
-        &mut no_link(alloc)?,
+        link,
         &mut InThreads::new(rt),
     )
 }
@@ -56,8 +60,9 @@ fn called<R: Host>(
 ) -> Option<String> {
     let alloc = rt.alloc();
     let words = words_in(alloc, call)?;
+    let mut link = no_link(alloc)?;
     let wires = wires_in(rt, handle, numbers)?;
-    finished(handle, alloc, &words, files, wires)
+    finished(handle, alloc, &words, files, wires, &mut link)
 }
 
 // The answers to two calls over the same files, and whether they are the same.

@@ -6,17 +6,17 @@ use cf_rows::{Host, answered};
 use cf_tasks::InThreads;
 use cf_wires::MemoryWires;
 
-/// How the call ends, at any port, and what it writes. The port is told once it listens.
-pub(crate) fn serve<R: Host>(
+// How a call ends over a link, and what it writes.
+fn served<R: Host>(
     rt: HostRuntime,
     handle: R,
-    call: String,
-    blocks: String,
-    port: Count,
+    call: &str,
+    blocks: &str,
+    link: &mut ToldLink,
 ) -> Option<String> {
     let alloc = rt.alloc();
-    let words = words_at(alloc, call.as_str(), 0)?;
-    let mut files = chain_in(alloc, blocks.as_str())?;
+    let words = words_at(alloc, call, 0)?;
+    let mut files = chain_in(alloc, blocks)?;
     let mut wires = MemoryWires::new(alloc).ok()?;
     answered(
         handle,
@@ -26,7 +26,19 @@ pub(crate) fn serve<R: Host>(
         1000,
         &mut files,
         &mut wires,
-        &mut ToldLink::new(rt, port),
+        link,
         &mut InThreads::new(handle),
     )
+}
+
+/// How the call ends, at any port, and what it writes. The port is told once it listens.
+pub(crate) fn serve<R: Host>(
+    rt: HostRuntime,
+    handle: R,
+    call: String,
+    blocks: String,
+    port: Count,
+) -> Option<String> {
+    let mut link = ToldLink::new(rt, port);
+    served(rt, handle, call.as_str(), blocks.as_str(), &mut link)
 }
