@@ -1,7 +1,5 @@
 pub mod Codes
 pub mod Statuses
-pub mod Texts
 pub mod Writing
 pub use Rattle.cf_answers.specs.Statuses.{has_run, is_over, was_refused, was_unbegun}
-pub use Rattle.cf_answers.specs.Texts.{run_text}
 pub use Rattle.cf_answers.specs.Writing.{CountsOut, IsOfText, IsWritten, named_line}

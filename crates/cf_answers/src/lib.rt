@@ -1,13 +1,10 @@
-//! The answers of the program, with what is wrong and where, how a text is written, what is written of a run, and what
-//! the program says of itself.
+//! The answers of the program, with what is wrong and where, how a text is written, and what the program says of itself.
 #![tactic(auto)]
 
 mod own_texts;
 mod status;
-mod texts;
 mod writing;
 
 pub use own_texts::own_text;
 pub use status::{FileCause, Status, Which};
-pub use texts::{put_trace, text_of};
 pub use writing::{hash_line, line_of, write};

@@ -4,13 +4,13 @@ ghost use Rattle.cf_wires.specs.{log_of, finished_of};
 
 use crate::fields::file_in;
 use crate::runs::wires_of;
-use cf_answers::text_of;
 use cf_client::Held;
 use cf_headers::{HeaderStore, Tree};
 use cf_input::{read_session, read_watch};
 use cf_lists::Lists;
 use cf_match::Plain;
 use cf_run::{Outcome, sync_over};
+use cf_run_text::text_of;
 use cf_wires::MemoryWires;
 use std::alloc::Global;
 

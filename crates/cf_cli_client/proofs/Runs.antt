@@ -29,7 +29,7 @@ use Rattle.cf_sync.specs.Fetching.{AreBytes, IsQuiet, IsBusy, IsConnected, Right
 use Rattle.cf_sync.specs.Sync.{SyncTheorem, IsHistoryOf}
 use Rattle.cf_answers.specs.declared.status.Status.{Status}
 use Rattle.cf_answers.specs.declared.status.Status.TheVariants.{Done, NoMemory, Usage, BadFile, FileFault, OutFault, NoPeers, Tired, Ended, LinkFault, NoNonce, NoHeight, NotThere, NotAddress}
-use Rattle.cf_answers.specs.Texts.{run_text}
+use Rattle.cf_run_text.specs.Texts.{run_text}
 use Rattle.cf_cli_client.specs.Theorem.{IsAnswerOf, IsDoneOrFault, IsComplete, KeptOnce, AnswerTellsEnds, AnswersTo, RanBy, WasOver}
 
 -- the answer, where the text was written

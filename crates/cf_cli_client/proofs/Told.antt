@@ -22,7 +22,7 @@ use Rattle.cf_sync.specs.Sync.{SyncTheorem}
 use Rattle.cf_wires.specs.Log.{Log, Tells, Told}
 use Rattle.cf_wires.specs.Wires.{Made}
 use Rattle.cf_answers.specs.Statuses.{has_run, is_over, was_refused, was_unbegun}
-use Rattle.cf_answers.specs.Texts.{run_text}
+use Rattle.cf_run_text.specs.Texts.{run_text}
 use Rattle.cf_answers.specs.Writing.{CountsOut}
 use Rattle.cf_answers.specs.declared.status.Status.{Status}
 use Rattle.cf_answers.specs.declared.status.Status.TheVariants.{NoMemory, FileFault, OutFault}

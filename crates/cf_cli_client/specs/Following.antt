@@ -22,7 +22,7 @@ use Rattle.cf_scan.specs.HistoryText.{history_text}
 use Rattle.cf_scan.specs.Scan.{scan_of}
 use Rattle.cf_answers.specs.declared.status.Status.{Status}
 use Rattle.cf_answers.specs.declared.status.Status.TheVariants.{Done, NoMemory, FileFault, OutFault}
-use Rattle.cf_answers.specs.Texts.{trace_text}
+use Rattle.cf_run_text.specs.Texts.{trace_text}
 use Rattle.cf_answers.specs.Statuses.{is_over}
 use Rattle.cf_cli_client.specs.Theorem.{AnswersTo, IsComplete, IsReplayed, KeptOverWatch, Tallied, RanBy}
 

@@ -30,7 +30,7 @@ use Rattle.cf_input.specs.declared.session.SessionFault.{SessionFault}
 use Rattle.cf_answers.specs.declared.status.Status.{Status}
 use Rattle.cf_answers.specs.declared.status.Status.TheVariants.{Done, NoMemory, BadFile, FileFault, OutFault, NoPeers, Tired, Ended}
 use Rattle.cf_answers.specs.Statuses.{has_run}
-use Rattle.cf_answers.specs.Texts.{run_text}
+use Rattle.cf_run_text.specs.Texts.{run_text}
 
 -- the answer of a run that ended so: its whole text was written, or the sink failed and a beginning of it was
 abbrev pub IsAnswerOf : End → Status → Option (List ℕ) → Option (List ℕ) → List ℕ → Type 0

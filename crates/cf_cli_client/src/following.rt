@@ -10,13 +10,14 @@ ghost use Rattle.cf_cli_client.specs.Theorem.{IsOfRun};
 
 use crate::recording::{keep_where, write_record};
 use crate::telling::{ends_of, say, status_of};
-use cf_answers::{Status, put_trace};
+use cf_answers::Status;
 use cf_bytes::{Files, NoMemory, Refused, Sink};
 use cf_headers::{HeaderStore, Tree};
 use cf_input::Word;
 use cf_match::Matcher;
 use cf_place::PeerEnd;
 use cf_run::{KeptTexts, Live, Outcome, TextFail, follow_over};
+use cf_run_text::put_trace;
 use cf_scan::Watch;
 use cf_wires::Wires;
 use std::alloc::Global;

@@ -2,20 +2,21 @@
 ghost use Rattle.std.specs.Prelude.{◌≡◌, ◌≤◌, length, is_some, IsSome, true, false};
 ghost use Rattle.cf_run.specs.{names_in, AreNewWires};
 ghost use Rattle.cf_answers.specs.{has_run, was_unbegun, CountsOut};
-ghost use Rattle.cf_answers.specs.{run_text};
+ghost use Rattle.cf_run_text.specs.{run_text};
 ghost use Rattle.cf_cli_client.specs.Ends.{AreEndsAfter};
 ghost use Rattle.cf_cli_client.specs.Leaving.{LeavesFiles, RunsOnce, RunsWires};
 ghost use Rattle.cf_cli_client.specs.Telling.{IsTold};
 
 use crate::recording::{keep_where, write_record};
 use crate::telling::{ends_of, say};
-use cf_answers::{Status, text_of};
+use cf_answers::Status;
 use cf_bytes::{Files, Refused, Sink};
 use cf_headers::Tree;
 use cf_input::Word;
 use cf_match::Matcher;
 use cf_place::PeerEnd;
 use cf_run::{Outcome, sync_over};
+use cf_run_text::text_of;
 use cf_scan::Watch;
 use cf_wires::Wires;
 use std::alloc::Global;

@@ -1,6 +1,6 @@
 //! What the program writes of a run.
 ghost use Rattle.std.specs.Prelude.{◌≡◌, ◌≤◌, ◌++◌, length, IfOk, OnOk};
-ghost use Rattle.cf_answers.specs.Texts.{cause_name as cause_of, command_name as command_of, trace_line, trace_text, end_text, run_text};
+ghost use Rattle.cf_run_text.specs.Texts.{cause_name as cause_of, command_name as command_of, trace_line, trace_text, end_text, run_text};
 
 use cf_bytes::{Hash32, NoMemory};
 use cf_peer::Cause;
