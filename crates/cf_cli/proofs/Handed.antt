@@ -1,5 +1,5 @@
 -- What is promised of each thing that a run is handed: where it stays, and told of the words that ask for the command.
-use Rattle.std.proofs.Common.{◌≡◌, ◌≢◌, inr, ℕ, ℤ, Bool, true, false, List, Option, Some, refl, sym, ◌∙◌, subst}
+use Rattle.std.proofs.Common.{◌≡◌, ◌≢◌, ◌≤◌, ◌-◌, inr, ℕ, ℤ, Bool, true, false, List, Option, Some, None, refl, sym, ◌∙◌, subst}
 use Rattle.std.specs.Prelude.{not, is_some, IfSome}
 use Rattle.cf_bytes.specs.Files.{Named, ReadsFile, Opens, Parts, WritesFile, IsRead, IsAtMostWritten}
 use Rattle.cf_bytes.specs.Outside.{HasRisen}
@@ -10,13 +10,14 @@ use Rattle.cf_wires.specs.declared.memory.MemoryWires.{MemoryWires}
 use Rattle.cf_played.specs.declared.played.Played.{Played}
 use Rattle.cf_input.specs.declared.words.Command.{Command}
 use Rattle.cf_answers.specs.declared.status.Status.{Status}
-use Rattle.cf_answers.specs.declared.status.Status.TheVariants.{FileFault}
-use Rattle.cf_answers.specs.Statuses.{was_unbegun}
+use Rattle.cf_answers.specs.declared.status.Status.TheVariants.{Done, NoMemory, Usage, BadFile, FileFault, OutFault, NoPeers, Tired, Ended, LinkFault, NoNonce, NoHeight, NotThere, NotAddress}
+use Rattle.cf_answers.specs.Statuses.{has_run, was_unbegun}
 use Rattle.cf_loading.specs.Verdicts.{IsJudged, IsOfFile, Good, watch_verdict}
-use Rattle.cf_cli.specs.Handed.{IsNewTape, RunsFiles, UsesFiles, UsesWires, UsesTape, UsesPlayed, UsesLink, UsesOut}
+use Rattle.cf_cli.specs.Handed.{IsNewTape, RunsFiles, UsesFiles, UsesWires, UsesTape, UsesPlayed, UsesLink, UsesOut, UsesSpawner}
 use Rattle.cf_cli_client.specs.Leaving.{RunsWires}
 use Rattle.cf_cli_client.specs.Recording.{Records}
-use Rattle.cf_cli.specs.Statuses.{is_recorded, may_dial}
+use Rattle.cf_cli.specs.Statuses.{is_recorded, may_dial, workers_in}
+use Rattle.cf_tasks.specs.Starting.{ArePut}
 use Rattle.cf_cli.proofs.Asking.{unasked}
 use Rattle.cf_cli_client.proofs.Asking.{unwritten}
 use Rattle.cf_cli_client.proofs.Tallies.{new_unfailed, versions_so}
@@ -128,3 +129,40 @@ link_so {L} {faults} {found} {command} {status} {before} {after} is = subst (λ 
 pub out_so : {O : Type 0} {written : O → Option (List ℕ)} {faults : O → ℕ} {found : Option Command} {command : Command} {status : Status} {before after : O} → found ≡ Some command
     → UsesOut written faults (Some command) status before after → UsesOut written faults found status before after
 out_so {O} {written} {faults} {found} {command} {status} {before} {after} is = subst (λ (o : Option Command). UsesOut written faults o status before after) (sym is)
+
+-- a spawner of a command that wasn't carried out
+unspawned_by : {K : Type 0} (moves : K → Bool → K → Type 0) (asked : Option ℕ) (status : Status) (before after : K) → has_run status ≡ false
+    → IfSome asked (λ n. 1 ≤ n → n ≤ 64 → has_run status ≡ true → ArePut moves (n - 1) before after)
+unspawned_by moves None status before after off = tt
+unspawned_by moves (Some n) status before after off = λ some most on. cc
+
+pub unspawned : {K : Type 0} {moves : K → Bool → K → Type 0} {command : Option Command} {status : Status} {before after : K} → has_run status ≡ false
+    → UsesSpawner moves command status before after
+unspawned {K} {moves} {command} {status} {before} {after} off = unspawned_by moves (workers_in command) status before after off
+
+-- an answer to a file that couldn't be read, or was refused: nothing was carried out
+pub unrun_of_file : (status : Status) → IsOfFile status → has_run status ≡ false
+unrun_of_file NoMemory is = refl
+unrun_of_file FileFault is = refl
+unrun_of_file (BadFile which place cause) is = refl
+unrun_of_file Done is = absurd is
+unrun_of_file Usage is = absurd is
+unrun_of_file OutFault is = absurd is
+unrun_of_file (NoPeers ends) is = absurd is
+unrun_of_file Tired is = absurd is
+unrun_of_file Ended is = absurd is
+unrun_of_file LinkFault is = absurd is
+unrun_of_file (NoNonce height) is = absurd is
+unrun_of_file (NoHeight tip) is = absurd is
+unrun_of_file (NotThere txid) is = absurd is
+unrun_of_file (NotAddress cause) is = absurd is
+
+-- as many tasks as were asked for, where that is how many there are to be
+pub put_as : {K : Type 0} {moves : K → Bool → K → Type 0} {given asked : ℕ} {before after : K} → given ≡ asked → ArePut moves (given - 1) before after
+    → ArePut moves (asked - 1) before after
+put_as {K} {moves} {given} {asked} {before} {after} same put = subst (λ (n : ℕ). ArePut moves (n - 1) before after) same put
+
+pub spawner_so : {K : Type 0} {moves : K → Bool → K → Type 0} {found : Option Command} {command : Command} {status : Status} {before after : K} → found ≡ Some command
+    → UsesSpawner moves (Some command) status before after → UsesSpawner moves found status before after
+spawner_so {K} {moves} {found} {command} {status} {before} {after} is =
+    subst (λ (o : Option Command). UsesSpawner moves o status before after) (sym is)

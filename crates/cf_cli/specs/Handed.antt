@@ -1,5 +1,5 @@
 -- statement: what is promised of each thing that a run is handed.
-use Rattle.std.specs.Prelude.{◌≡◌, ◌≢◌, ℕ, ℤ, Bool, false, List, [], ◌∷◌, Option, IfSome}
+use Rattle.std.specs.Prelude.{◌≡◌, ◌≢◌, ◌≤◌, ◌-◌, ℕ, ℤ, Bool, true, false, List, [], ◌∷◌, Option, IfSome}
 use Rattle.std.specs.FinMap as finite
 use Rattle.cf_bytes.specs.Files.{Named, ReadsFile, Opens, Parts, WritesFile}
 use Rattle.cf_bytes.specs.Outside.{HasRisen}
@@ -11,6 +11,7 @@ use Rattle.cf_wires.specs.declared.memory.MemoryWires.{MemoryWires}
 use Rattle.cf_played.specs.Told.{log_of as played_log, peers_of, finished_of as has_finished}
 use Rattle.cf_played.specs.declared.played.Played.{Played}
 use Rattle.cf_input.specs.declared.words.Command.{Command}
+use Rattle.cf_answers.specs.Statuses.{has_run}
 use Rattle.cf_answers.specs.declared.status.Status.{Status}
 use Rattle.cf_answers.specs.declared.status.Status.TheVariants.{FileFault, LinkFault}
 use Rattle.cf_loading.specs.Asking.{Whole}
@@ -20,8 +21,9 @@ use Rattle.cf_cli_demo.specs.Demo.{may_show}
 use Rattle.cf_cli_client.specs.Recording.{Records}
 use Rattle.cf_cli.specs.Statuses.{is_recorded, may_write}
 use Rattle.cf_cli_serve.specs.Serving.{may_serve}
-use Rattle.cf_cli.specs.Statuses.{goes_on, may_dial, may_play, may_say}
+use Rattle.cf_cli.specs.Statuses.{goes_on, may_dial, may_play, may_say, workers_in}
 use Rattle.cf_cli_client.specs.Leaving.{CountsOn}
+use Rattle.cf_tasks.specs.Starting.{ArePut}
 
 -- nothing has passed the tape, no call of it is to fail, and it isn't finished
 pub record IsNewTape (tape : MemoryWires) : Type 0 where
@@ -83,3 +85,9 @@ pub record UsesLink {L : Type 0} (faults : L → ℕ) (command : Option Command)
 pub record UsesOut {O : Type 0} (written : O → Option (List ℕ)) (faults : O → ℕ) (command : Option Command) (status : Status) (before after : O) : Type 0 where
   pub unwritten : may_say command status ≡ false → written after ≡ written before
   pub counts : CountsOn (goes_on command) status (faults before) (faults after)
+
+-- The spawner: a command that was carried out has put to it a task for each thread that it asks for to judge filters, from 1 to 64, but for the one that it
+-- runs in.
+abbrev pub UsesSpawner : {K : Type 0} → (K → Bool → K → Type 0) → Option Command → Status → K → K → Type 0
+UsesSpawner moves command status before after =
+    IfSome (workers_in command) (λ n. 1 ≤ n → n ≤ 64 → has_run status ≡ true → ArePut moves (n - 1) before after)

@@ -1,5 +1,5 @@
 -- statement: what a command's files are judged as, and what it may have done by its answer.
-use Rattle.std.specs.Prelude.{Bool, false, not, Option, Some, is_some}
+use Rattle.std.specs.Prelude.{ℕ, Bool, false, not, Option, Some, is_some}
 use Rattle.std.specs.FinMap as finite
 use Rattle.cf_bytes.specs.Files.{Named}
 use Rattle.cf_answers.specs.Statuses.{has_run, was_refused, was_unbegun}
@@ -56,3 +56,9 @@ abbrev pub is_recorded : Option Command → Bool
 is_recorded (Some (Sync turns workers file watch peers)) = is_some file
 is_recorded (Some (Follow turns workers file watch peers)) = is_some file
 is_recorded command = false
+
+-- how many threads a command asks for to judge filters, the one that it runs in among them: `sync` and `follow` do
+abbrev pub workers_in : Option Command → Option ℕ
+workers_in (Some (Sync turns workers file watch peers)) = Some workers
+workers_in (Some (Follow turns workers file watch peers)) = Some workers
+workers_in command = None

@@ -1,5 +1,5 @@
 //! All that the program does.
-ghost use Rattle.std.specs.Prelude.{◌≡◌, ◌≢◌, ◌≤◌, ◌⊎◌, true, false, [], ◌∷◌, length, IfSome, is_some, Some, None, Ok, IfErr, IfOk, IsErrOf, OnOk};
+ghost use Rattle.std.specs.Prelude.{◌≡◌, ◌≢◌, ◌≤◌, ◌-◌, ◌⊎◌, true, false, [], ◌∷◌, length, IfSome, is_some, Some, None, Ok, IfErr, IfOk, IsErrOf, OnOk};
 ghost use Rattle.std.specs.FinMap as finite;
 ghost use Rattle.cf_bytes.specs.{IsRead, HasRisen};
 ghost use Rattle.cf_run.specs.{AreNewWires, names_in, IsOfGreeting};
@@ -10,10 +10,11 @@ ghost use Rattle.cf_loading.specs.{CountsFile, Whole, IsJudged, IsOfFile, Good, 
 ghost use Rattle.cf_answers.specs.{has_run, was_refused, was_unbegun, CountsOut};
 ghost use Rattle.cf_cli.specs.Statuses.{verdict_of};
 ghost use Rattle.cf_link.specs.{link_now};
+ghost use Rattle.cf_tasks.specs.{ArePut};
 ghost use Rattle.cf_cli.specs.Doing.{Does, around};
 ghost use Rattle.cf_cli.specs.Ends.{AreEnds, dials_in};
 ghost use Rattle.cf_cli_client.specs.{AreEndsAfter, AreEndsOver, CountsOn, RunsWires, IsReplayedIn, KeptLive, TalliedOn, IsOfRun, KeptOver, Tallied, PlaysSession, WasOver};
-ghost use Rattle.cf_cli.specs.Handed.{IsNewPlayed, IsNewTape, RunsFiles, UsesFiles, UsesLink, UsesOut, UsesPlayed, UsesTape, UsesWires};
+ghost use Rattle.cf_cli.specs.Handed.{IsNewPlayed, IsNewTape, RunsFiles, UsesFiles, UsesLink, UsesOut, UsesPlayed, UsesSpawner, UsesTape, UsesWires};
 ghost use Rattle.cf_input.specs.declared.words.Command.{Command};
 
 use cf_answers::Status;
@@ -137,6 +138,7 @@ fn set_up<R: Wait + Threads + Copy + Drop + Send + 'static, F: Files, K: Spawner
     ensures kept { OnOk result (F.faults files.new ≡ F.faults files.old) }
     ensures only { IfErr result IsOfFile }
     ensures files { IsRead F.reads watch.now files.old files.new }
+    ensures threads { OnOk result (ArePut K.moves (workers - 1) spawner.old spawner.new) }
 {
     let scripts = load_watch(alloc, files, watch)?;
     match Parallel::new(rt, alloc, spawner, workers) {
@@ -179,6 +181,7 @@ fn sync<R: Wait + Threads + Copy + Drop + Send + 'static, F: Files, W: Wires, K:
     ensures unwritten { has_run result ≡ false → O.written out.new ≡ O.written out.old }
     ensures ends { AreEndsAfter result (is_some log_file.now) (length (names_in peers.now)) (W.told wires.new)
         ends.old.items ends.new.items }
+    ensures threads { has_run result ≡ true → ArePut K.moves (workers - 1) spawner.old spawner.new }
 {
     match set_up(rt, alloc, files, watch, workers, spawner) {
         Ok((scripts, matcher)) => run_once(
@@ -229,6 +232,7 @@ fn follow<
     ensures unwritten { was_unbegun result (is_some log_file.now) ≡ true → O.written out.new ≡ O.written out.old }
     ensures ends { AreEndsOver result (is_some log_file.now) (length (names_in peers.now)) (W.told wires.new)
         ends.old.items ends.new.items }
+    ensures threads { has_run result ≡ true → ArePut K.moves (workers - 1) spawner.old spawner.new }
 {
     match set_up(rt, alloc, files, watch, workers, spawner) {
         Ok((scripts, matcher)) => follow_and_record(
@@ -240,7 +244,8 @@ fn follow<
 
 // So many threads, as far as a matcher may have them. The words ask for no others.
 fn threads_of(workers: u32) -> u32
-    ensures { (1 ≤ result) × (result ≤ 64) }
+    ensures bounds { (1 ≤ result) × (result ≤ 64) }
+    ensures same { 1 ≤ workers → workers ≤ 64 → result ≡ workers }
 {
     workers.clamp(1, MOST_WORKERS)
 }
@@ -291,6 +296,7 @@ where
     ensures played { UsesPlayed (Some command.now) played.old played.new }
     ensures link { UsesLink L.faults (Some command.now) result link.old link.new }
     ensures out { UsesOut O.written O.faults (Some command.now) result out.old out.new }
+    ensures spawner { UsesSpawner K.moves (Some command.now) result spawner.old spawner.new }
     ensures asked { result ≢ Status.Usage }
     ensures ends { AreEnds (Some command.now) result (F.files files.old) (W.told wires.new) (told_of tape.new)
         ends.old.items ends.new.items }
@@ -410,7 +416,8 @@ where
 /// only `sync` and `follow` with a record change a file. Of the files at most those that the command names are read,
 /// the watch file first and each once, a file of blocks by parts, and after that at most the one that it writes is
 /// written, once. Where a call of `files` has failed the answer is `FileFault`, and where one of `link` has
-/// `LinkFault`: with any other answer their counts of faults stay.
+/// `LinkFault`: with any other answer their counts of faults stay. `sync` and `follow` that were carried out have asked
+/// `spawner` for the threads that their words ask for.
 ///
 /// How each peer stands once `sync`, `follow` or `replay` has made its run is put into `ends`, in the order of their
 /// numbers. Where no run was begun, and with each other command, `ends` stays as it is handed in. With each answer it
@@ -463,6 +470,7 @@ where
     ensures played { UsesPlayed (command_of (names_in words.now)) played.old played.new }
     ensures link { UsesLink L.faults (command_of (names_in words.now)) result link.old link.new }
     ensures out { UsesOut O.written O.faults (command_of (names_in words.now)) result out.old out.new }
+    ensures spawner { UsesSpawner K.moves (command_of (names_in words.now)) result spawner.old spawner.new }
     ensures ends { AreEnds (command_of (names_in words.now)) result (F.files files.old) (W.told wires.new)
         (told_of tape.new) ends.old.items ends.new.items }
 {

@@ -5,7 +5,7 @@ use Rattle.std.specs.Prelude.{is_some}
 use Rattle.cf_run.specs.Names.{names_in}
 use Rattle.cf_cli.proofs.Plays.{watch_there}
 use Rattle.cf_loading.proofs.Counting.{counts_fine}
-use Rattle.cf_cli.proofs.Handed.{unrun_files, run_files}
+use Rattle.cf_cli.proofs.Handed.{unrun_files, run_files, unrun_of_file}
 use Rattle.cf_cli_client.proofs.Wires.{runs_at, unrun_wires}
 use Rattle.cf_cli.proofs.Ends.{over_early}
 use Rattle.cf_cli.proofs.Stays.{early_tallied_on, early_told_on, told_over_watch_on}
@@ -49,3 +49,6 @@ returns-in-Ok-clause-ends g c = c.follow_and_record.ensures.ends
 
 pub returns-in-Err-clause-ends : goal.returns-in-Err-clause-ends
 returns-in-Err-clause-ends g c = over_early c.in-Err.status _ _ _ _ c.in-Err.ensures.only
+
+pub returns-in-Err-clause-threads : goal.returns-in-Err-clause-threads
+returns-in-Err-clause-threads g c = λ run. (let off = unrun_of_file c.in-Err.status c.in-Err.ensures.only in cc)

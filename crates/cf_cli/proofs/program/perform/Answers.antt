@@ -14,7 +14,7 @@ use Rattle.cf_offline.specs.Reading.{IsAddressed, IsOfFilter, IsOfScan}
 use Rattle.cf_played.specs.Told.{log_of as played_log}
 use Rattle.cf_wires.specs.Memory.{told_of}
 use Rattle.cf_cli_client.proofs.Tallies.{versions_so}
-use Rattle.cf_cli.proofs.Handed.{is_on, is_not, files_stay, wires_stay, tape_stays, dialled_wires}
+use Rattle.cf_cli.proofs.Handed.{is_on, is_not, files_stay, wires_stay, tape_stays, dialled_wires, put_as}
 use Rattle.cf_cli.proofs.Performing.{judged_none, link_stays, made_judged, out_once, out_stays, played_stays}
 use Rattle.cf_cli.proofs.Records.{unrecorded_by}
 use Rattle.cf_cli.proofs.program.perform.Goals as goal
@@ -32,6 +32,7 @@ returns-in-Replay g c =
       link = link_stays (is_not known c.replay.result LinkFault c.replay.ensures.answers (λ is. is));
       out = out_once refl c.replay.ensures.unwritten c.replay.ensures.counts;
       asked = is_not known c.replay.result Usage c.replay.ensures.answers (λ is. is);
+      spawner = tt;
       ends = rw c.as_str-in-Replay.ensures at c.replay.ensures.ends;
     })
 
@@ -49,6 +50,7 @@ returns-in-Sync g c =
       link = link_stays (is_not known c.sync.result LinkFault answers (λ is. is));
       out = out_once refl c.sync.ensures.unwritten c.sync.ensures.counts;
       asked = is_not known c.sync.result Usage answers (λ is. is);
+      spawner = λ some most run. put_as (c.threads_of.ensures.same some most) (c.sync.ensures.threads run);
       ends = rw c.as_slice.ensures at c.sync.ensures.ends;
     })
 
@@ -66,6 +68,7 @@ returns-in-Follow g c =
       link = link_stays (is_not known c.follow.result LinkFault answers (λ is. is));
       out = record { unwritten = λ off. c.follow.ensures.unwritten (is_on _ off); counts = c.follow.ensures.counts };
       asked = is_not known c.follow.result Usage answers (λ is. is);
+      spawner = λ some most run. put_as (c.threads_of-in-Follow.ensures.same some most) (c.follow.ensures.threads run);
       ends = rw c.as_slice-in-Follow.ensures at c.follow.ensures.ends;
     })
 
@@ -82,6 +85,7 @@ returns-in-Scan g c =
       link = link_stays (is_not known c.scan.result LinkFault c.scan.ensures.scanned.answers (λ is. is));
       out = out_once refl c.scan.ensures.unwritten c.scan.ensures.counts;
       asked = is_not known c.scan.result Usage c.scan.ensures.scanned.answers (λ is. is);
+      spawner = tt;
       ends = refl;
     })
 
@@ -98,6 +102,7 @@ returns-in-Filter g c =
       link = link_stays (is_not known c.filter.result LinkFault c.filter.ensures.filtered.answers (λ is. is));
       out = out_once refl c.filter.ensures.unwritten c.filter.ensures.counts;
       asked = is_not known c.filter.result Usage c.filter.ensures.filtered.answers (λ is. is);
+      spawner = tt;
       ends = refl;
     })
 
@@ -114,6 +119,7 @@ returns-in-Address g c =
       link = link_stays (is_not known c.address.result LinkFault c.address.ensures.addressed (λ is. is));
       out = out_once refl c.address.ensures.unwritten c.address.ensures.counts;
       asked = is_not known c.address.result Usage c.address.ensures.addressed (λ is. is);
+      spawner = tt;
       ends = refl;
     })
 
@@ -130,6 +136,7 @@ returns-in-Prove g c =
       link = link_stays (is_not known c.prove.result LinkFault c.prove.ensures.proved.answers (λ is. is));
       out = out_once refl c.prove.ensures.unwritten c.prove.ensures.counts;
       asked = is_not known c.prove.result Usage c.prove.ensures.proved.answers (λ is. is);
+      spawner = tt;
       ends = refl;
     })
 
@@ -146,6 +153,7 @@ returns-in-Check g c =
       link = link_stays (is_not known c.check.result LinkFault c.check.ensures.checked.answers (λ is. is));
       out = out_once refl c.check.ensures.unwritten c.check.ensures.counts;
       asked = is_not known c.check.result Usage c.check.ensures.checked.answers (λ is. is);
+      spawner = tt;
       ends = refl;
     })
 
@@ -166,6 +174,7 @@ returns-in-Serve g c =
       link = record { unserved = λ off. c.serve.ensures.unused (is_on _ off); fault = c.serve.ensures.link_fault; fine = c.serve.ensures.link_fine };
       out = out_stays (is_not known c.serve.result OutFault served (λ is. is));
       asked = is_not known c.serve.result Usage served (λ is. is);
+      spawner = tt;
       ends = refl;
     })
 
@@ -182,6 +191,7 @@ returns-in-Make g c =
       link = link_stays (is_not known c.make.result LinkFault c.make.ensures.made (λ is. is));
       out = out_stays (is_not known c.make.result OutFault c.make.ensures.made (λ is. is));
       asked = is_not known c.make.result Usage c.make.ensures.made (λ is. is);
+      spawner = tt;
       ends = refl;
     })
 
@@ -198,5 +208,6 @@ returns-in-Demo g c =
       link = link_stays (is_not known c.demo.result LinkFault c.demo.ensures.demoed (λ is. is));
       out = out_once refl c.demo.ensures.unwritten c.demo.ensures.counts;
       asked = is_not known c.demo.result Usage c.demo.ensures.demoed (λ is. is);
+      spawner = tt;
       ends = refl;
     })

@@ -6,7 +6,7 @@ use Rattle.cf_input.specs.Words.{command_of}
 use Rattle.cf_wires.specs.Memory.{told_of}
 use Rattle.cf_cli.proofs.Plays.{new_tape, judged_for}
 use Rattle.cf_cli.proofs.Doing.{does_so, undone}
-use Rattle.cf_cli.proofs.Handed.{files_stay, wires_stay, tape_stays, files_so, wires_so, tape_so, played_so, link_so, out_so}
+use Rattle.cf_cli.proofs.Handed.{files_stay, wires_stay, tape_stays, files_so, wires_so, tape_so, played_so, link_so, out_so, spawner_so, unspawned}
 use Rattle.cf_answers.specs.declared.status.Status.TheVariants.{NoMemory, Usage}
 use Rattle.cf_cli.proofs.Ends.{ends_so, ends_untold}
 use Rattle.cf_cli.proofs.program.run.Goals as goal
@@ -74,3 +74,12 @@ pub returns-in-Err-NoMemory-clause-ends : goal.returns-in-Err-NoMemory-clause-en
 returns-in-Err-NoMemory-clause-ends g c =
     ends_untold (command_of (names_in c.args.words.now)) NoMemory (g.F.Files.files c.args.files.now) (g.W.Wires.told c.args.wires.now)
     (told_of c.args.tape.now) c.args.ends.now.items refl
+
+pub returns-in-Ok-clause-spawner : goal.returns-in-Ok-clause-spawner
+returns-in-Ok-clause-spawner g c = spawner_so c.in-Ok.ensures.exact c.perform.ensures.spawner
+
+pub returns-in-Err-No-clause-spawner : goal.returns-in-Err-No-clause-spawner
+returns-in-Err-No-clause-spawner g c = unspawned refl
+
+pub returns-in-Err-NoMemory-clause-spawner : goal.returns-in-Err-NoMemory-clause-spawner
+returns-in-Err-NoMemory-clause-spawner g c = unspawned refl

@@ -5,7 +5,7 @@ use Rattle.std.specs.Prelude.{is_some}
 use Rattle.cf_run.specs.Names.{names_in}
 use Rattle.cf_loading.proofs.Counting.{counts_fine}
 use Rattle.cf_cli.proofs.Plays.{early_told, early_tallied, new_over, told_over_watch, watch_there}
-use Rattle.cf_cli.proofs.Handed.{unrun_files, run_files}
+use Rattle.cf_cli.proofs.Handed.{unrun_files, run_files, unrun_of_file}
 use Rattle.cf_cli_client.proofs.Wires.{runs_at, unrun_wires}
 use Rattle.cf_cli.proofs.Ends.{ends_early}
 use Rattle.cf_cli.proofs.program.sync.Goals as goal
@@ -54,3 +54,6 @@ returns-in-Ok-clause-ends g c = c.run_once.ensures.ends
 
 pub returns-in-Err-clause-ends : goal.returns-in-Err-clause-ends
 returns-in-Err-clause-ends g c = ends_early c.in-Err.status _ _ _ _ c.in-Err.ensures.only
+
+pub returns-in-Err-clause-threads : goal.returns-in-Err-clause-threads
+returns-in-Err-clause-threads g c = λ run. (let off = unrun_of_file c.in-Err.status c.in-Err.ensures.only in cc)
