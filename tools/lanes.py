@@ -256,7 +256,8 @@ class Build:
 
         def fits(name, jobs):
             nonlocal free
-            while jobs > 1 and (lone or self.need(name, jobs) > free):
+            # (the program is the largest check, and few of its seconds go to functions)
+            while jobs > 1 and (lone or crates.is_program(name) or self.need(name, jobs) > free):
                 jobs -= 1
             if taken and self.need(name, jobs) > free:
                 return 0
