@@ -307,4 +307,5 @@ def main():
                 print(answer, file=answers)
 
 
-main()
+if __name__ == "__main__":
+    main()
