@@ -10,12 +10,11 @@ use Rattle.cf_loading.specs.Verdicts.{and_then, IsJudged, IsOfFile, FileVerdict,
 use Rattle.cf_answers.specs.Statuses.{was_unbegun}
 use Rattle.cf_cli_client.specs.Recording.{Records}
 use Rattle.std.specs.FinMap as finite
-use Rattle.cf_cli_client.proofs.Records.{keeps_same}
 
 -- where a file is answered for before a run no file has changed
 pub early_records : (status : Status) (file : Option (List ℕ)) (log : Option Log) (before after : Option Named) → IsOfFile status → after ≡ before → Records status file log before after
 early_records NoMemory file log before after is same = same
-early_records FileFault file log before after is same = keeps_same file before after same
+early_records FileFault file log before after is same = same
 early_records (BadFile which place cause) file log before after is same = same
 early_records Done file log before after is same = absurd is
 early_records Usage file log before after is same = absurd is
