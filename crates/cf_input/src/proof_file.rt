@@ -80,7 +80,7 @@ fn read_stored(alloc: Global, bytes: &[u8]) -> Result<Tx, Refused<BlockFaultKind
         Err(Refused::No(kind)) => return Err(Refused::No(kind)),
         Err(Refused::NoMemory) => return Err(Refused::NoMemory),
     };
-    if cut.rest().len() > 0 {
+    if !cut.rest().is_empty() {
         return Err(Refused::No(BlockFaultKind::Rest));
     }
     Ok(tx)

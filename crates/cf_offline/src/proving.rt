@@ -158,9 +158,9 @@ fn write_proven<O: Sink>(alloc: Global, proven: &Proven, out: &mut O) -> Status
 fn text_of_placed(alloc: Global, proven: &Proven, height: u32) -> Result<String, NoMemory>
     ensures { IfOk result (λ text. string_bytes text ≡ in_text_at proven.now height) }
 {
-    let block = show(alloc, &proven.block)?;
+    let header = show(alloc, &proven.block)?;
     let txid = show(alloc, &proven.txid)?;
-    Ok(format!(in alloc; "in {block} {txid} at {height}\n")?)
+    Ok(format!(in alloc; "in {header} {txid} at {height}\n")?)
 }
 
 // Writes it.
