@@ -563,13 +563,12 @@ fn read_check(alloc: Global, matches: &ArgMatches) -> Result<Command, Refused<Us
     ensures { GivesOrUsage (check_of (subcommand_rows_of matches.now)) result }
 {
     let file = text_of(matches, "file").ok_or(Usage)?;
-    let blocks = word_where(alloc, text_of(matches, "blocks"))?;
+    let chain = word_where(alloc, text_of(matches, "blocks"))?;
     let file = Word::new(alloc, file)?;
-    let witness = is_set(matches, "witness");
     Ok(Command::Check {
-        witness,
+        witness: is_set(matches, "witness"),
         file,
-        blocks,
+        blocks: chain,
     })
 }
 
