@@ -5,7 +5,7 @@ use Rattle.std.proofs.lemmas.Bool.{false≢true}
 use Rattle.cf_bytes.specs.Files.{Named}
 use Rattle.cf_wires.specs.Log.{Log}
 use Rattle.cf_answers.specs.declared.status.Status.{Status}
-use Rattle.cf_answers.specs.declared.status.Status.TheVariants.{Done, NoMemory, Usage, BadFile, FileFault, OutFault, NoPeers, Tired, Ended, LinkFault, NoNonce, NoHeight, NotThere, NotAddress}
+use Rattle.cf_answers.specs.declared.status.Status.TheVariants.{Done, NoMemory, Usage, BadFile, FileFault, OutFault, NoPeers, Tired, Ended, LinkFault, NoNonce, NoHeight, NotThere, NotInChain, NotAddress}
 use Rattle.cf_loading.specs.Verdicts.{and_then, IsJudged, IsOfFile, FileVerdict, Good, session_verdict, watch_verdict}
 use Rattle.cf_answers.specs.Statuses.{was_unbegun}
 use Rattle.cf_cli_client.specs.Recording.{Records}
@@ -26,6 +26,7 @@ early_records LinkFault file log before after is same = absurd is
 early_records (NoNonce height) file log before after is same = absurd is
 early_records (NoHeight tip) file log before after is same = absurd is
 early_records (NotThere txid) file log before after is same = absurd is
+early_records (NotInChain block) file log before after is same = absurd is
 early_records (NotAddress cause) file log before after is same = absurd is
 
 -- the same files, told by what they are equal to
@@ -48,6 +49,7 @@ unrecorded LinkFault log before after h = h
 unrecorded (NoNonce height) log before after h = h
 unrecorded (NoHeight tip) log before after h = h
 unrecorded (NotThere txid) log before after h = h
+unrecorded (NotInChain block) log before after h = h
 unrecorded (NotAddress cause) log before after h = h
 
 -- the same of the name that is asked for
@@ -70,6 +72,7 @@ good_judged LinkFault recorded begun = tt
 good_judged (NoNonce height) recorded begun = tt
 good_judged (NoHeight tip) recorded begun = tt
 good_judged (NotThere txid) recorded begun = tt
+good_judged (NotInChain block) recorded begun = tt
 good_judged (NotAddress cause) recorded begun = tt
 
 -- the same over the watch file, where the files tell it

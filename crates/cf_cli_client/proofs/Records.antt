@@ -4,7 +4,7 @@ use Rattle.std.proofs.lemmas.Bool.{false≢true}
 use Rattle.cf_bytes.specs.Files.{Named}
 use Rattle.cf_wires.specs.Log.{Log}
 use Rattle.cf_answers.specs.declared.status.Status.{Status}
-use Rattle.cf_answers.specs.declared.status.Status.TheVariants.{Done, NoMemory, Usage, BadFile, FileFault, OutFault, NoPeers, Tired, Ended, LinkFault, NoNonce, NoHeight, NotThere, NotAddress}
+use Rattle.cf_answers.specs.declared.status.Status.TheVariants.{Done, NoMemory, Usage, BadFile, FileFault, OutFault, NoPeers, Tired, Ended, LinkFault, NoNonce, NoHeight, NotThere, NotInChain, NotAddress}
 use Rattle.cf_answers.specs.Statuses.{was_refused}
 use Rattle.cf_cli_client.specs.Recording.{HasRecord, Records}
 use Rattle.cf_cli_client.specs.Theorem.{IsOfRun}
@@ -25,4 +25,5 @@ begun_records LinkFault file log before after is begun enough kept = absurd is
 begun_records (NoNonce height) file log before after is begun enough kept = absurd is
 begun_records (NoHeight tip) file log before after is begun enough kept = absurd is
 begun_records (NotThere txid) file log before after is begun enough kept = absurd is
+begun_records (NotInChain block) file log before after is begun enough kept = absurd is
 begun_records (NotAddress cause) file log before after is begun enough kept = absurd is
