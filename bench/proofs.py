@@ -183,6 +183,35 @@ def called(data, blocks):
     called_row("check w", f"tx {tx.hex()};proof {(idle + proof[80:]).hex()};", b"", refused(2, "Proof(Work)", "no block: the hash of the header is above the target"))
     other = next(h for h in worked if met(h) and h != header)
     called_row("check w", f"tx {tx.hex()};proof {(other + proof[80:]).hex()};", b"", f"0 Done\nin {double(other)[::-1].hex()} {txid}\n")
+    print("# The height of the proof's block in the chain of a file; the other form of the transaction, with a witness, which is asked for.")
+    witness = bytes([1, 1, 0xaa])
+    for height, (header, txs) in enumerate(blocks, 1):
+        for place, tx in enumerate(txs):
+            header, tx, proof, text, line = texts[sum(len(txs) for _, txs in blocks[:height - 1]) + place]
+            extended = tx[:4] + b"\x00\x01" + tx[4:-4] + witness * tx[4] + tx[-4:]
+            called_row("check w f", text, data, f"0 Done\n{line[:-1]} at {height}\n")
+            called_row("check --witness w", f"tx {extended.hex()};proof {proof.hex()};", b"", "0 Done\n" + line)
+            called_row("check --witness w f", f"tx {extended.hex()};proof {proof.hex()};", data, f"0 Done\n{line[:-1]} at {height}\n")
+    called_row("check --witness w", text, b"", "0 Done\n" + line)
+    print("# A block that the chain hasn't got: it is higher, or another one of that height; a chain that is refused, or isn't there; the proof is judged first.")
+    shown = ", ".join(str(byte) for byte in double(header))
+    cut = data[:len(data) - 8 - len(header) - 1 - sum(map(len, blocks[-1][1]))]
+    missing = f"12 NotInChain {{ block: Hash32([{shown}]) }}: the block of the proof is not in the chain of the file\n"
+    called_row("check w f", text, cut, missing)
+    header, tx, proof, text, line = texts[1]
+    shown = ", ".join(str(byte) for byte in double(other))
+    missing = f"12 NotInChain {{ block: Hash32([{shown}]) }}: the block of the proof is not in the chain of the file\n"
+    called_row("check w f", f"tx {tx.hex()};proof {(other + proof[80:]).hex()};", data, missing)
+    called_row("check w f", text, data[:7], "3 BadFile { which: Blocks, place: 1, cause: Blocks(Cut) }: the block file, record 1: the record is cut off\n")
+    called_row("check w x", text, data, "4 FileFault: a file could not be read\n")
+    called_row("check w f", "tx ;", data[:7], refused(1, "Proof(Tx(Short))", "no transaction: a field is cut off"))
+    called_row("check w f", text, data, "5 OutFault: the text could not be written\n" + line[:10], 10)
+    print("# A transaction with witnesses that are all empty, or cut off, and one without where none is asked for.")
+    empty = tx[:4] + b"\x00\x01" + tx[4:-4] + bytes(tx[4]) + tx[-4:]
+    called_row("check --witness w", f"tx {empty.hex()};proof {proof.hex()};", b"", refused(1, "Proof(Tx(EmptyWitness))", "no transaction: a transaction's witnesses are all empty"))
+    extended = tx[:4] + b"\x00\x01" + tx[4:-4] + witness * tx[4] + tx[-4:]
+    called_row("check --witness w", f"tx {extended[:-5].hex()};proof {proof.hex()};", b"", refused(1, "Proof(Tx(Short))", "no transaction: a field is cut off"))
+    called_row("check w", f"tx {extended.hex()};proof {proof.hex()};", b"", refused(1, "Proof(Tx(Witness))", "no transaction: a transaction has witnesses"))
 
 
 def main():

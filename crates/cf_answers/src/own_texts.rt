@@ -26,7 +26,7 @@ usage: cf scan FILE WATCH
        cf serve [--grow] [--connections N] FILE ADDRESS
        cf address TEXT
        cf prove FILE TXID
-       cf check FILE
+       cf check [--witness] FILE [BLOCKS]
        cf make [--witness] SEED BLOCKS FILE
        cf demo SEED BLOCKS
        cf --help
@@ -46,7 +46,7 @@ usage: cf scan FILE WATCH
   prove    checks the blocks of FILE, and prints the transaction whose hash is
            TXID and a proof that it stands in its block
   check    checks a proof that prove has printed to FILE, and prints the block
-           and the transaction; it cannot tell whether the block is in a chain
+           and the transaction; with BLOCKS, a file of blocks, the height too
   make     writes the blocks of a made chain to FILE, from height 1 to BLOCKS,
            1 to 500000; SEED, 0 to 4294967295, says which chain
   demo     runs the client on three peers that are played, of which one is
@@ -61,7 +61,8 @@ usage: cf scan FILE WATCH
   --workers  judges filters in N threads, from 1 to 64 (else 4)
   --record   writes the dials and what came from the peers to FILE, as the
              lines of a session
-  --witness  gives the first transaction of each block a witness, as nodes do
+  --witness  make: gives the first transaction of each block a witness, as nodes
+             do; check: the transaction may stand with its witnesses
 
 A line of the history, in hundred millionths of a coin:
     HEIGHT TXID +RECEIVED -SPENT BALANCE
@@ -97,7 +98,8 @@ The exit status:
   9  ADDRESS could not be listened at, or no connection could be accepted
  10  no nonce that is tried makes a block of the made chain
  11  HEIGHT is above the tip of FILE
- 12  no block of FILE has a transaction whose hash is TXID
+ 12  no block of FILE has a transaction whose hash is TXID, or the block of the
+     proof is not in the chain of BLOCKS
  13  TEXT is neither an address of regtest nor the script of one
 ";
 

@@ -130,6 +130,11 @@ pub enum Status {
     NotThere {
         txid: Hash32,
     },
+    /// The block of the proof, whose hash this is, isn't in the chain of the file.
+    #[error("the block of the proof is not in the chain of the file")]
+    NotInChain {
+        block: Hash32,
+    },
     /// The text is neither an address of regtest nor the script of one.
     #[error("{cause}")]
     NotAddress {
@@ -156,6 +161,7 @@ impl Status {
             Status::NoNonce { .. } => 10,
             Status::NoHeight { .. } => 11,
             Status::NotThere { .. } => 12,
+            Status::NotInChain { .. } => 12,
             Status::NotAddress { .. } => 13,
         }
     }

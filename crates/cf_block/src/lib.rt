@@ -33,7 +33,7 @@ pub use parse::{
     read_input_count, read_outpoint, read_u32, read_value, read_version,
 };
 pub use script::Script;
-pub use stored::parse_stored;
+pub use stored::{parse_stored, read_stored_tx};
 pub use tx::{Block, OutPoint, Tx, TxIn, TxIns, TxOut, TxOuts, Txs};
 pub use witness::write_with_witness;
 pub use write::{write_block, write_tx};

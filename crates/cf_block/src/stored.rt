@@ -108,8 +108,10 @@ fn read_extended(alloc: Global, cut: &mut Cut) -> Result<Tx, Refused<BlockFaultK
     })
 }
 
+/// The transaction that begins the bytes, in the form with witnesses (BIP 144, "Serialization") or without. The
+/// witnesses aren't kept, and they take no memory. The reader then stands behind it, or where a field is refused.
 #[tactic(auto, unfolding(crate::specs::Stored::stored_tx_at))]
-fn read_stored_tx(alloc: Global, cut: &mut Cut) -> Result<Tx, Refused<BlockFaultKind>>
+pub fn read_stored_tx(alloc: Global, cut: &mut Cut) -> Result<Tx, Refused<BlockFaultKind>>
     ensures exact { Gives (λ t. t) (stored_tx_at cut.old) result cut.new }
     ensures fits { IfOk result (λ t. IsTx t) }
 {

@@ -1,5 +1,5 @@
 -- statement: files by their names.
-use Rattle.std.specs.Prelude.{◌≡◌, ◌≢◌, ◌⊎◌, ℕ, ◌<◌, ◌≤◌, List, [], ◌∷◌, length, map, Option, Some, None, Result, Ok, Err, String, Vec, string_bytes}
+use Rattle.std.specs.Prelude.{◌≡◌, ◌⊎◌, ℕ, ◌<◌, ◌≤◌, List, [], ◌∷◌, length, map, Option, Some, None, Result, Ok, Err, String, Vec, string_bytes}
 use Rattle.std.specs.Global.{Global}
 use Rattle.std.specs.Ordering.{nat_cmp}
 use Rattle.std.specs.Cmp.Lexicographic.{slice_cmp}
@@ -50,12 +50,6 @@ ReadIn None name most (Err e) = Unit {0}
 abbrev pub with_file : List ℕ → List ℕ → Option Named → Option Named
 with_file name bytes None = None
 with_file name bytes (Some m) = Some (finite.insert m name bytes)
-
--- nothing changed but under this name
-abbrev pub SameElsewhere : List ℕ → Option Named → Option Named → Type 0
-SameElsewhere name (Some before) (Some after) = (other : List ℕ) → other ≢ name → finite.get after other ≡ finite.get before other
-SameElsewhere name None None = Unit {0}
-SameElsewhere name before after = ⊥
 
 -- what a call of files reads: of a name and the most bytes that are asked for, the answer, and what it leaves
 abbrev pub ReadsFile : Type 0 → Type 1

@@ -1,11 +1,11 @@
 //! Files by their names, as a trait.
-ghost use Rattle.std.specs.Prelude.{◌≡◌, ℕ, ◌≤◌, ◌<◌, List, [], Option, Result, Vec, Err, length, take, drop, IfOk, IfSome, OnOk, OnErr, IsErrOf};
+ghost use Rattle.std.specs.Prelude.{◌≡◌, ℕ, ◌≤◌, ◌<◌, List, [], Option, Result, Vec, Err, length, take, drop, IfOk, IfSome, OnOk, OnErr};
 ghost use Rattle.std.specs.Global.{Global};
 ghost use Rattle.cf_bytes.specs.declared.files.FileFail.{FileFail};
 ghost use Rattle.cf_bytes.specs.declared.files.FileFail.TheVariants.{NoMemory as OutOfMemory};
 ghost use Rattle.cf_bytes.specs.declared.outside.Failed.{Failed as Fault};
 ghost use Rattle.cf_bytes.specs.Outside.{HasRisen, with_front};
-ghost use Rattle.cf_bytes.specs.Files.{Named, ReadIn, OpenIn, Counts, SameElsewhere, with_file};
+ghost use Rattle.cf_bytes.specs.Files.{Named, ReadIn, OpenIn, Counts, with_file};
 
 use crate::outside::Failed;
 use std::alloc::{AllocError, AllocFailed, Global};
@@ -69,9 +69,11 @@ pub trait Files {
         ensures exact { reads self.old name.now most result self.new };
 
     /// Opens a file of at most `most` bytes, whose bytes `part` gives from then on: `TooBig` exactly where it has more,
-    /// and `Failed` where there is none.
+    /// and `Failed` where there is none. After an error no file is open: `part` gives nothing, also where another file
+    /// was open before.
     fn open(&mut self, name: &str, most: usize) -> Result<(), FileFail>
         ensures answer { OpenIn (files self.old) name.now most (opened self.new) result }
+        ensures shut { OnErr result (IfSome (opened self.new) (λ left. left ≡ [])) }
         ensures same { files self.new ≡ files self.old }
         ensures count { Counts result (faults self.old) (faults self.new) }
         ensures exact { opens self.old name.now most result self.new };
@@ -89,12 +91,11 @@ pub trait Files {
         ensures cause { OnErr result (HasRisen (faults self.old) (faults self.new)) }
         ensures exact { parts self.old (length into.old) result self.new };
 
-    /// Sets the bytes of a name, and of no other. After `Failed` any bytes may stand under it, and
-    /// where no memory is found nothing has changed. It doesn't answer `TooBig`.
+    /// Sets the bytes of a name, and of no other, whole or not at all: after an error no file has changed. It doesn't
+    /// answer `TooBig`.
     fn write(&mut self, alloc: Global, name: &str, bytes: &[u8]) -> Result<(), FileFail>
         ensures ok { OnOk result (files self.new ≡ with_file name.now bytes.now (files self.old)) }
-        ensures failed { IsErrOf result FileFail.Failed → SameElsewhere name.now (files self.old) (files self.new) }
-        ensures memory { IsErrOf result FileFail.NoMemory → files self.new ≡ files self.old }
+        ensures err { OnErr result (files self.new ≡ files self.old) }
         ensures fits { result ≡ Err FileFail.TooBig → ⊥ }
         ensures stays { opened self.new ≡ opened self.old }
         ensures count { Counts result (faults self.old) (faults self.new) }

@@ -1,16 +1,19 @@
 //! The process's own files and writers behind the traits. They tell no bytes.
-ghost use Rattle.std.specs.Prelude.{◌≡◌, ◌≤◌, ◌<◌, ◌↔◌, length, None, IfOk, IsSome};
+ghost use Rattle.std.specs.Prelude.{◌≡◌, ◌≤◌, ◌<◌, ◌↔◌, length, None, IfOk, IsSome, OnErr};
+ghost use Rattle.cf_bytes.specs.Files.{Counts};
 ghost use Rattle.cf_bytes.specs.Outside.{HasRisen};
 
 use crate::files::{FileFail, Files};
 use crate::outside::{Failed, Sink};
+use crate::whole::{Unwritten, write_whole};
 use std::alloc::{AllocError, AllocFailed, Global};
 use std::fs::OpenFile;
 use std::io::{Read, Write};
 use std::rt::Files as HostFiles;
 use std::{fs, io};
 
-/// The files of the system that the process runs on. A name is a path.
+/// The files of the system that the process runs on. A name is a path. A regular file, or one that isn't there, is
+/// written whole or not at all; what is no regular file, as a pipe, a device or a symbolic link, is written in place.
 #[derive(Drop)]
 pub struct StdFiles<R: HostFiles> {
     rt: R,
@@ -46,10 +49,28 @@ impl<R: HostFiles> StdFiles<R> {
     fn failed(&mut self, reason: io::Error) -> FileFail
         ensures answer { result ≡ FileFail.Failed }
         ensures count { HasRisen self.old.faults self.new.faults }
+        ensures stays { self.new.opened ≡ self.old.opened }
     {
         self.faults = self.faults.saturating_add(1);
         self.reason = Some(reason);
         FileFail::Failed
+    }
+
+    // Shuts the file that was opened last, and opens this one. After an error none is open.
+    fn open_new(&mut self, name: &str, most: usize) -> Result<(), FileFail>
+        ensures shut { OnErr result (self.new.opened ≡ None) }
+        ensures count { Counts result self.old.faults self.new.faults }
+    {
+        self.opened = None;
+        let (file, size) = match open_file(&self.rt, name) {
+            Ok(x) => x,
+            Err(reason) => return Err(self.failed(reason)),
+        };
+        if size > most as u64 {
+            return Err(FileFail::TooBig);
+        }
+        self.opened = Some(file);
+        Ok(())
     }
 }
 
@@ -134,15 +155,7 @@ impl<R: HostFiles> Files for StdFiles<R> {
     ghost writes = { λ _ _ _ _ _. Unit {0} };
 
     fn open(&mut self, name: &str, most: usize) -> Result<(), FileFail> {
-        let (file, size) = match open_file(&self.rt, name) {
-            Ok(x) => x,
-            Err(reason) => return Err(self.failed(reason)),
-        };
-        if size > most as u64 {
-            return Err(FileFail::TooBig);
-        }
-        self.opened = Some(file);
-        Ok(())
+        self.open_new(name, most)
     }
 
     // Gives nothing where no file was opened. The bytes go by a buffer, since a reader of the system may leave anything
@@ -175,10 +188,11 @@ impl<R: HostFiles> Files for StdFiles<R> {
         }
     }
 
-    fn write(&mut self, _alloc: Global, name: &str, bytes: &[u8]) -> Result<(), FileFail> {
-        match fs::write(&self.rt, name, bytes) {
+    fn write(&mut self, alloc: Global, name: &str, bytes: &[u8]) -> Result<(), FileFail> {
+        match write_whole(&self.rt, alloc, name, bytes) {
             Ok(()) => Ok(()),
-            Err(reason) => Err(self.failed(reason)),
+            Err(Unwritten::Failed(reason)) => Err(self.failed(reason)),
+            Err(Unwritten::NoMemory) => Err(FileFail::NoMemory),
         }
     }
 }

@@ -36,6 +36,19 @@ fn over_peers(
     Some(text)
 }
 
+// The command `check`: its name, the file of the proof, the file of blocks where there is one, and whether witnesses may
+// stand in the proof's transaction.
+fn check(alloc: Global, witness: bool, file: &Word, blocks: &Option<Word>) -> Option<String> {
+    let mut text = format!(in alloc; "check {}", file.as_str()).ok()?;
+    if let Some(blocks) = blocks {
+        put_word(blocks.as_str(), &mut text)?;
+    }
+    if witness {
+        put_word("witness", &mut text)?;
+    }
+    Some(text)
+}
+
 // A command and its parts.
 fn told(alloc: Global, command: &Command) -> Option<String> {
     match command {
@@ -76,7 +89,11 @@ fn told(alloc: Global, command: &Command) -> Option<String> {
         Command::Prove { file, txid } => {
             format!(in alloc; "prove {} {}", file.as_str(), show(alloc, txid).ok()?).ok()
         }
-        Command::Check { file } => format!(in alloc; "check {}", file.as_str()).ok(),
+        Command::Check {
+            witness,
+            file,
+            blocks,
+        } => check(alloc, *witness, file, blocks),
         Command::Serve {
             grow,
             connections,

@@ -19,7 +19,7 @@ use Rattle.cf_wires.specs.Log.{Tells}
 use Rattle.cf_answers.specs.declared.status.Status.{Status}
 use Rattle.cf_answers.specs.declared.status.Status.TheVariants.{NoMemory}
 use Rattle.cf_cli.specs.Doing.{Around, Does}
-use Rattle.cf_offline.specs.Proving.{Checks, Proves, TakesWhatIsProved}
+use Rattle.cf_offline.specs.Proving.{Checks, ChecksBy, ChecksIn, Proves, TakesAlone, TellsPlace, height_in}
 use Rattle.cf_offline.specs.Reading.{Filters, Scans, TellsFilter, TellsHeight}
 use Rattle.cf_cli.proofs.Plays.{early_plays, early_tallied, early_told, same_command}
 use Rattle.cf_cli_client.proofs.Tallies.{new_dialled}
@@ -58,6 +58,14 @@ no_check : (b : Option (List ℕ)) (proven : Result Proven ProofFileFault) → C
 no_check b (Ok proven) = refl
 no_check b (Err fault) = refl
 
+no_place : (b : Option (List ℕ)) (proven : Result Proven ProofFileFault) (blocks : Result (List Block) BadBlock) → ChecksIn NoMemory proven blocks b b
+no_place b (Ok proven) (Ok blocks) = unplaced (height_in proven.block.0 blocks) where
+  unplaced : (height : Option ℕ) → TellsPlace NoMemory proven height b b
+  unplaced (Some height) = refl
+  unplaced None = refl
+no_place b (Ok proven) (Err bad) = refl
+no_place b (Err fault) blocks = refl
+
 -- what holds of any bytes holds of those that stand under a name
 under : (o : Option Named) (name : List ℕ) {P : List ℕ → Type 0} → ((bytes : List ℕ) → P bytes) → IfSome o (λ m. IfSome (finite.get m name) P)
 under None name h = tt
@@ -74,6 +82,23 @@ under_both (Some m) one two {P} h = held (finite.get m one) (finite.get m two) w
   held None b = tt
   held (Some a) None = tt
   held (Some a) (Some b) = h a b
+
+unchecked : (o : Option Named) (file : List ℕ) (chain : Option (List ℕ)) (b : Option (List ℕ)) (witness : Bool)
+    → IfSome o (λ m. IfSome (finite.get m file) (λ bytes. ChecksBy NoMemory m (proof_file_of witness bytes) chain b b))
+unchecked None file chain b witness = tt
+unchecked (Some m) file chain b witness = held (finite.get m file) where
+  alone : (chain : Option (List ℕ)) (bytes : List ℕ) → ChecksBy NoMemory m (proof_file_of witness bytes) chain b b
+  alone None bytes = no_check b (proof_file_of witness bytes)
+  alone (Some name) bytes = under (Some m) name {P = λ c. ChecksIn NoMemory (proof_file_of witness bytes) (blocks_at c) b b} (λ c. no_place b (proof_file_of witness bytes) (blocks_at c))
+
+  held : (o : Option (List ℕ)) → IfSome o (λ bytes. ChecksBy NoMemory m (proof_file_of witness bytes) chain b b)
+  held None = tt
+  held (Some bytes) = alone chain bytes
+
+untaken : (b : Option (List ℕ)) (bytes : List ℕ) (witness : Bool) (chain : Option (List ℕ)) → TakesAlone NoMemory witness bytes chain b b
+untaken b bytes false None = λ txid blocks good made. refl
+untaken b bytes false (Some name) = tt
+untaken b bytes true chain = tt
 
 -- where no memory is found for the words nothing has changed, and all that is promised of each command holds
 pub undone : (c : Command) (moment : ℤ) (nonce : ℕ) (a : Around) → Tells [] a.wires → Tells [] a.tape → a.taped ≡ [] → Does c NoMemory moment nonce a a
@@ -107,10 +132,10 @@ undone (Prove file txid) moment nonce a wires tape log = record {
   answers = refl;
   told = under a.files file (λ b. no_proof a.written txid (blocks_at b));
 }
-undone (Check file) moment nonce a wires tape log = record {
+undone (Check witness file chain) moment nonce a wires tape log = record {
   answers = refl;
-  told = under a.files file (λ b. no_check a.written (proof_file_of b));
-  takes = under a.files file {P = λ b. TakesWhatIsProved NoMemory b a.written a.written} (λ b txid blocks good made. refl);
+  told = unchecked a.files file chain a.written witness;
+  takes = under a.files file {P = λ b. TakesAlone NoMemory witness b chain a.written a.written} (λ b. untaken a.written b witness chain);
 }
 undone (Serve grow count file address) moment nonce a wires tape log = (inl refl, refl)
 undone (Make witness seed blocks file) moment nonce a wires tape log = (refl, refl)

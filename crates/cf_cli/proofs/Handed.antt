@@ -10,7 +10,7 @@ use Rattle.cf_wires.specs.declared.memory.MemoryWires.{MemoryWires}
 use Rattle.cf_played.specs.declared.played.Played.{Played}
 use Rattle.cf_input.specs.declared.words.Command.{Command}
 use Rattle.cf_answers.specs.declared.status.Status.{Status}
-use Rattle.cf_answers.specs.declared.status.Status.TheVariants.{Done, NoMemory, Usage, BadFile, FileFault, OutFault, NoPeers, Tired, Ended, LinkFault, NoNonce, NoHeight, NotThere, NotAddress}
+use Rattle.cf_answers.specs.declared.status.Status.TheVariants.{Done, NoMemory, Usage, BadFile, FileFault, OutFault, NoPeers, Tired, Ended, LinkFault, NoNonce, NoHeight, NotThere, NotInChain, NotAddress}
 use Rattle.cf_answers.specs.Statuses.{has_run, was_unbegun}
 use Rattle.cf_loading.specs.Verdicts.{IsJudged, IsOfFile, Good, watch_verdict}
 use Rattle.cf_cli.specs.Handed.{IsNewTape, RunsFiles, UsesFiles, UsesWires, UsesTape, UsesPlayed, UsesLink, UsesOut, UsesSpawner}
@@ -155,6 +155,7 @@ unrun_of_file LinkFault is = absurd is
 unrun_of_file (NoNonce height) is = absurd is
 unrun_of_file (NoHeight tip) is = absurd is
 unrun_of_file (NotThere txid) is = absurd is
+unrun_of_file (NotInChain block) is = absurd is
 unrun_of_file (NotAddress cause) is = absurd is
 
 -- as many tasks as were asked for, where that is how many there are to be

@@ -5,7 +5,7 @@ use Rattle.cf_bytes.specs.Files.{Named}
 use Rattle.cf_answers.specs.Statuses.{has_run}
 use Rattle.cf_answers.specs.Writing.{CountsOut}
 use Rattle.cf_answers.specs.declared.status.Status.{Status}
-use Rattle.cf_answers.specs.declared.status.Status.TheVariants.{Done, NoMemory, Usage, BadFile, FileFault, OutFault, NoPeers, Tired, Ended, LinkFault, NoNonce, NoHeight, NotThere, NotAddress}
+use Rattle.cf_answers.specs.declared.status.Status.TheVariants.{Done, NoMemory, Usage, BadFile, FileFault, OutFault, NoPeers, Tired, Ended, LinkFault, NoNonce, NoHeight, NotThere, NotInChain, NotAddress}
 use Rattle.cf_input.specs.declared.words.Command.{Command}
 use Rattle.cf_loading.specs.Verdicts.{IsJudged, no_file}
 use Rattle.cf_offline.specs.Making.{IsMaking}
@@ -56,4 +56,5 @@ made_judged Ended witness seed blocks file before after made = absurd made
 made_judged LinkFault witness seed blocks file before after made = absurd made
 made_judged (NoHeight tip) witness seed blocks file before after made = absurd made
 made_judged (NotThere txid) witness seed blocks file before after made = absurd made
+made_judged (NotInChain block) witness seed blocks file before after made = absurd made
 made_judged (NotAddress cause) witness seed blocks file before after made = absurd made

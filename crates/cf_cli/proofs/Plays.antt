@@ -17,7 +17,7 @@ use Rattle.cf_wires.specs.Memory.{script_of, log_of, failing_of, finished_of, to
 use Rattle.cf_wires.specs.Wires.{WireScript, Made}
 use Rattle.cf_input.specs.declared.session.SessionFault.{SessionFault}
 use Rattle.cf_answers.specs.declared.status.Status.{Status}
-use Rattle.cf_answers.specs.declared.status.Status.TheVariants.{Done, NoMemory, Usage, BadFile, FileFault, OutFault, NoPeers, Tired, Ended, LinkFault, NoNonce, NoHeight, NotThere, NotAddress}
+use Rattle.cf_answers.specs.declared.status.Status.TheVariants.{Done, NoMemory, Usage, BadFile, FileFault, OutFault, NoPeers, Tired, Ended, LinkFault, NoNonce, NoHeight, NotThere, NotInChain, NotAddress}
 use Rattle.cf_input.specs.declared.words.Command.{Command}
 use Rattle.cf_input.specs.declared.words.Command.TheVariants.{Replay}
 use Rattle.cf_input.specs.SessionFile.{session_of}
@@ -48,6 +48,7 @@ of_file LinkFault is = absurd is
 of_file (NoNonce height) is = absurd is
 of_file (NoHeight tip) is = absurd is
 of_file (NotThere txid) is = absurd is
+of_file (NotInChain block) is = absurd is
 of_file (NotAddress cause) is = absurd is
 
 pub no_run : (status : Status) → IsOfFile status → has_run status ≡ false

@@ -5,17 +5,16 @@ use Rattle.std.proofs.lemmas.Bool.{false≢true}
 use Rattle.cf_bytes.specs.Files.{Named}
 use Rattle.cf_wires.specs.Log.{Log}
 use Rattle.cf_answers.specs.declared.status.Status.{Status}
-use Rattle.cf_answers.specs.declared.status.Status.TheVariants.{Done, NoMemory, Usage, BadFile, FileFault, OutFault, NoPeers, Tired, Ended, LinkFault, NoNonce, NoHeight, NotThere, NotAddress}
+use Rattle.cf_answers.specs.declared.status.Status.TheVariants.{Done, NoMemory, Usage, BadFile, FileFault, OutFault, NoPeers, Tired, Ended, LinkFault, NoNonce, NoHeight, NotThere, NotInChain, NotAddress}
 use Rattle.cf_loading.specs.Verdicts.{and_then, IsJudged, IsOfFile, FileVerdict, Good, session_verdict, watch_verdict}
 use Rattle.cf_answers.specs.Statuses.{was_unbegun}
 use Rattle.cf_cli_client.specs.Recording.{Records}
 use Rattle.std.specs.FinMap as finite
-use Rattle.cf_cli_client.proofs.Records.{keeps_same}
 
 -- where a file is answered for before a run no file has changed
 pub early_records : (status : Status) (file : Option (List ℕ)) (log : Option Log) (before after : Option Named) → IsOfFile status → after ≡ before → Records status file log before after
 early_records NoMemory file log before after is same = same
-early_records FileFault file log before after is same = keeps_same file before after same
+early_records FileFault file log before after is same = same
 early_records (BadFile which place cause) file log before after is same = same
 early_records Done file log before after is same = absurd is
 early_records Usage file log before after is same = absurd is
@@ -27,6 +26,7 @@ early_records LinkFault file log before after is same = absurd is
 early_records (NoNonce height) file log before after is same = absurd is
 early_records (NoHeight tip) file log before after is same = absurd is
 early_records (NotThere txid) file log before after is same = absurd is
+early_records (NotInChain block) file log before after is same = absurd is
 early_records (NotAddress cause) file log before after is same = absurd is
 
 -- the same files, told by what they are equal to
@@ -49,6 +49,7 @@ unrecorded LinkFault log before after h = h
 unrecorded (NoNonce height) log before after h = h
 unrecorded (NoHeight tip) log before after h = h
 unrecorded (NotThere txid) log before after h = h
+unrecorded (NotInChain block) log before after h = h
 unrecorded (NotAddress cause) log before after h = h
 
 -- the same of the name that is asked for
@@ -71,6 +72,7 @@ good_judged LinkFault recorded begun = tt
 good_judged (NoNonce height) recorded begun = tt
 good_judged (NoHeight tip) recorded begun = tt
 good_judged (NotThere txid) recorded begun = tt
+good_judged (NotInChain block) recorded begun = tt
 good_judged (NotAddress cause) recorded begun = tt
 
 -- the same over the watch file, where the files tell it

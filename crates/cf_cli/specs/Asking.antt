@@ -4,6 +4,7 @@ use Rattle.cf_bytes.specs.Files.{ReadsFile, Opens, Parts, WritesFile, IsAtMostWr
 use Rattle.cf_input.specs.declared.words.Command.{Command}
 use Rattle.cf_input.specs.declared.words.Command.TheVariants.{Replay, Sync, Follow, Scan, Filter, Address, Prove, Check, Serve, Make, Demo}
 use Rattle.cf_loading.specs.Asking.{FileRead, Whole, ByParts, AreRead}
+use Rattle.cf_offline.specs.Proving.{files_checked}
 
 -- the files that a command reads, in this order: those of blocks by parts
 abbrev pub files_read : Command → List FileRead
@@ -14,7 +15,7 @@ files_read (Scan file watch) = Whole watch ∷ ByParts file ∷ []
 files_read (Filter file height) = ByParts file ∷ []
 files_read (Address text) = []
 files_read (Prove file txid) = ByParts file ∷ []
-files_read (Check file) = Whole file ∷ []
+files_read (Check witness file chain) = files_checked file chain
 files_read (Serve grow count file address) = ByParts file ∷ []
 files_read (Make witness seed blocks file) = []
 files_read (Demo seed blocks) = []

@@ -81,7 +81,7 @@ Does (Scan file watch) status moment nonce before after = IsScanned status befor
 Does (Filter file height) status moment nonce before after = IsFiltered status before.files file height before.written after.written
 Does (Address text) status moment nonce before after = IsAddressed status text before.written after.written
 Does (Prove file txid) status moment nonce before after = IsProved status before.files file txid before.written after.written
-Does (Check file) status moment nonce before after = IsChecked status before.files file before.written after.written
+Does (Check witness file chain) status moment nonce before after = IsChecked status witness before.files file chain before.written after.written
 Does (Serve grow count file address) status moment nonce before after =
     IsServing grow status moment nonce before.files file address count before.link after.link × (after.written ≡ before.written)
 Does (Make witness seed blocks file) status moment nonce before after = IsMaking status witness seed blocks file before.files after.files × (after.written ≡ before.written)

@@ -6,7 +6,8 @@ use Rattle.cf_answers.specs.Statuses.{has_run, was_refused, was_unbegun}
 use Rattle.cf_answers.specs.declared.status.Status.{Status}
 use Rattle.cf_input.specs.declared.words.Command.{Command}
 use Rattle.cf_input.specs.declared.words.Command.TheVariants.{Replay, Sync, Follow, Scan, Filter, Address, Prove, Check, Serve, Make, Demo}
-use Rattle.cf_loading.specs.Verdicts.{FileVerdict, and_then, no_file, watch_verdict, session_verdict, blocks_verdict, proof_verdict}
+use Rattle.cf_loading.specs.Verdicts.{FileVerdict, and_then, no_file, watch_verdict, session_verdict, blocks_verdict}
+use Rattle.cf_offline.specs.Proving.{check_verdict}
 use Rattle.std.specs.Prelude.{None}
 use Rattle.cf_cli.specs.Asking.{name_written}
 
@@ -19,7 +20,7 @@ verdict_of files (Scan file watch) = and_then (watch_verdict (finite.get files w
 verdict_of files (Filter file height) = blocks_verdict (finite.get files file)
 verdict_of files (Address text) = no_file
 verdict_of files (Prove file txid) = blocks_verdict (finite.get files file)
-verdict_of files (Check file) = proof_verdict (finite.get files file)
+verdict_of files (Check witness file chain) = check_verdict files witness file chain
 verdict_of files (Serve grow count file address) = blocks_verdict (finite.get files file)
 verdict_of files (Make witness seed blocks file) = no_file
 verdict_of files (Demo seed blocks) = no_file

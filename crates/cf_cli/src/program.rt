@@ -368,7 +368,11 @@ where
         Command::Filter { file, height } => filter(&rt, alloc, files, file.as_str(), *height, out),
         Command::Address { text } => address(alloc, text.as_str(), out),
         Command::Prove { file, txid } => prove(alloc, files, file.as_str(), txid, out),
-        Command::Check { file } => check(alloc, files, file.as_str(), out),
+        Command::Check {
+            witness,
+            file,
+            blocks,
+        } => check(alloc, files, *witness, file.as_str(), blocks, out),
         Command::Serve {
             grow,
             connections,

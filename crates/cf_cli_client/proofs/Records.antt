@@ -1,22 +1,13 @@
 -- What becomes of the record.
-use Rattle.std.proofs.Common.{◌≡◌, ◌≢◌, ℕ, false, List, Option, Some, None, refl, sym, subst}
+use Rattle.std.proofs.Common.{◌≡◌, ◌≢◌, ℕ, false, List, Option, None, refl, sym}
 use Rattle.std.proofs.lemmas.Bool.{false≢true}
-use Rattle.cf_bytes.specs.Files.{Named, SameElsewhere}
+use Rattle.cf_bytes.specs.Files.{Named}
 use Rattle.cf_wires.specs.Log.{Log}
 use Rattle.cf_answers.specs.declared.status.Status.{Status}
-use Rattle.cf_answers.specs.declared.status.Status.TheVariants.{Done, NoMemory, Usage, BadFile, FileFault, OutFault, NoPeers, Tired, Ended, LinkFault, NoNonce, NoHeight, NotThere, NotAddress}
+use Rattle.cf_answers.specs.declared.status.Status.TheVariants.{Done, NoMemory, Usage, BadFile, FileFault, OutFault, NoPeers, Tired, Ended, LinkFault, NoNonce, NoHeight, NotThere, NotInChain, NotAddress}
 use Rattle.cf_answers.specs.Statuses.{was_refused}
-use Rattle.cf_cli_client.specs.Recording.{HasRecord, KeepsOthers, Records}
+use Rattle.cf_cli_client.specs.Recording.{HasRecord, Records}
 use Rattle.cf_cli_client.specs.Theorem.{IsOfRun}
-
-same_elsewhere : (name : List ℕ) (files : Option Named) → SameElsewhere name files files
-same_elsewhere name None = tt
-same_elsewhere name (Some m) = λ other apart. refl
-
--- files that stay keep all others too
-pub keeps_same : (file : Option (List ℕ)) (before after : Option Named) → after ≡ before → KeepsOthers file before after
-keeps_same None before after same = same
-keeps_same (Some name) before after same = subst (λ (files : Option Named). SameElsewhere name before files) (sym same) (same_elsewhere name before)
 
 -- the record of a run that was begun, where memory was not wanting
 pub begun_records : (status : Status) (file : Option (List ℕ)) (log : Option Log) (before after : Option Named) → IsOfRun status → was_refused status ≡ false → status ≢ NoMemory
@@ -34,4 +25,5 @@ begun_records LinkFault file log before after is begun enough kept = absurd is
 begun_records (NoNonce height) file log before after is begun enough kept = absurd is
 begun_records (NoHeight tip) file log before after is begun enough kept = absurd is
 begun_records (NotThere txid) file log before after is begun enough kept = absurd is
+begun_records (NotInChain block) file log before after is begun enough kept = absurd is
 begun_records (NotAddress cause) file log before after is begun enough kept = absurd is

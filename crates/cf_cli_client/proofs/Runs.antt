@@ -28,7 +28,7 @@ use Rattle.cf_sync.proofs.Settles.{honest_never_closed}
 use Rattle.cf_sync.specs.Fetching.{AreBytes, IsQuiet, IsBusy, IsConnected, RightlyIn, Rule, once}
 use Rattle.cf_sync.specs.Sync.{SyncTheorem, IsHistoryOf}
 use Rattle.cf_answers.specs.declared.status.Status.{Status}
-use Rattle.cf_answers.specs.declared.status.Status.TheVariants.{Done, NoMemory, Usage, BadFile, FileFault, OutFault, NoPeers, Tired, Ended, LinkFault, NoNonce, NoHeight, NotThere, NotAddress}
+use Rattle.cf_answers.specs.declared.status.Status.TheVariants.{Done, NoMemory, Usage, BadFile, FileFault, OutFault, NoPeers, Tired, Ended, LinkFault, NoNonce, NoHeight, NotThere, NotInChain, NotAddress}
 use Rattle.cf_run_text.specs.Texts.{run_text}
 use Rattle.cf_cli_client.specs.Theorem.{IsAnswerOf, IsDoneOrFault, IsComplete, KeptOnce, AnswerTellsEnds, AnswersTo, RanBy, WasOver}
 
@@ -63,6 +63,7 @@ settles end LinkFault recorded before after text log answer why somebody quiet =
 settles end (NoNonce height) recorded before after text log answer why somebody quiet = absurd answer
 settles end (NoHeight tip) recorded before after text log answer why somebody quiet = absurd answer
 settles end (NotThere txid) recorded before after text log answer why somebody quiet = absurd answer
+settles end (NotInChain block) recorded before after text log answer why somebody quiet = absurd answer
 settles end (NotAddress cause) recorded before after text log answer why somebody quiet = absurd answer
 
 completes : (end : End) (status : Status) (recorded : Bool) (before after : Option (List ℕ)) (text : List ℕ) → IsAnswerOf end status before after text → end ≢ HasNoPeers → IsComplete status recorded
@@ -79,6 +80,7 @@ completes end LinkFault recorded before after text answer somebody = absurd answ
 completes end (NoNonce height) recorded before after text answer somebody = absurd answer
 completes end (NoHeight tip) recorded before after text answer somebody = absurd answer
 completes end (NotThere txid) recorded before after text answer somebody = absurd answer
+completes end (NotInChain block) recorded before after text answer somebody = absurd answer
 completes end (NotAddress cause) recorded before after text answer somebody = absurd answer
 
 -- the text of a run that is synced, without a trace

@@ -34,7 +34,7 @@ use Rattle.cf_wires.specs.Wires.{Made}
 use Rattle.cf_scan.specs.HistoryText.{history_text}
 use Rattle.cf_scan.specs.Scan.{scan_of}
 use Rattle.cf_answers.specs.declared.status.Status.{Status}
-use Rattle.cf_answers.specs.declared.status.Status.TheVariants.{Done, NoMemory, Usage, BadFile, FileFault, OutFault, NoPeers, Tired, Ended, LinkFault, NoNonce, NoHeight, NotThere, NotAddress}
+use Rattle.cf_answers.specs.declared.status.Status.TheVariants.{Done, NoMemory, Usage, BadFile, FileFault, OutFault, NoPeers, Tired, Ended, LinkFault, NoNonce, NoHeight, NotThere, NotInChain, NotAddress}
 use Rattle.cf_answers.specs.Writing.{CountsOut}
 use Rattle.cf_cli_client.specs.Leaving.{CountsOn}
 use Rattle.cf_cli_client.specs.Following.{BegunTexts, CutShort, EndsBy, GivenUp, Grows, KeptOn, CameToEnd, TalliedOn, WasOverOn, with_trace}
@@ -89,6 +89,7 @@ answer LinkFault = record { over = λ off. cc; begun = λ recorded off. cc; run 
 answer (NoNonce height) = record { over = λ off. cc; begun = λ recorded off. cc; run = λ on. cc }
 answer (NoHeight tip) = record { over = λ off. cc; begun = λ recorded off. cc; run = λ on. cc }
 answer (NotThere txid) = record { over = λ off. cc; begun = λ recorded off. cc; run = λ on. cc }
+answer (NotInChain block) = record { over = λ off. cc; begun = λ recorded off. cc; run = λ on. cc }
 answer (NotAddress cause) = record { over = λ off. cc; begun = λ recorded off. cc; run = λ on. cc }
 
 pub not_over : (status : Status) → has_run status ≡ false → is_over status ≡ false
@@ -451,6 +452,7 @@ refused_by LinkFault is begun off enough = absurd is
 refused_by (NoNonce height) is begun off enough = absurd is
 refused_by (NoHeight tip) is begun off enough = absurd is
 refused_by (NotThere txid) is begun off enough = absurd is
+refused_by (NotInChain block) is begun off enough = absurd is
 refused_by (NotAddress cause) is begun off enough = absurd is
 
 stayed_or_refused : (status : Status) (recorded : Bool) (scripts names : List (List ℕ)) (before after : Option (List ℕ)) (old new : ℕ) (log : Log)

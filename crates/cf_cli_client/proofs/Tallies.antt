@@ -16,7 +16,7 @@ use Rattle.cf_run.specs.Whole.{EndsWithin, LeavesWires}
 use Rattle.cf_wires.specs.Log.{Log, Told, Tells, Tally}
 use Rattle.cf_wires.specs.Wires.{Made}
 use Rattle.cf_answers.specs.declared.status.Status.{Status}
-use Rattle.cf_answers.specs.declared.status.Status.TheVariants.{Done, NoMemory, Usage, BadFile, FileFault, OutFault, NoPeers, Tired, Ended, LinkFault, NoNonce, NoHeight, NotThere, NotAddress}
+use Rattle.cf_answers.specs.declared.status.Status.TheVariants.{Done, NoMemory, Usage, BadFile, FileFault, OutFault, NoPeers, Tired, Ended, LinkFault, NoNonce, NoHeight, NotThere, NotInChain, NotAddress}
 use Rattle.cf_answers.specs.Statuses.{has_run}
 use Rattle.cf_cli_client.specs.Theorem.{AnswersTo, AreLeft, IsWithin, IsOfRun, Tallied, has_somebody}
 
@@ -35,6 +35,7 @@ has_nobody LinkFault off = refl
 has_nobody (NoNonce height) off = refl
 has_nobody (NoHeight tip) off = refl
 has_nobody (NotThere txid) off = refl
+has_nobody (NotInChain block) off = refl
 has_nobody (NotAddress cause) off = refl
 
 pub not_run : (status other : Status) → has_run status ≡ false → has_run other ≡ true → status ≡ other → ⊥

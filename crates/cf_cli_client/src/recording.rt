@@ -25,8 +25,8 @@ pub(crate) fn keep_where<W: Wires>(wires: &mut W, log_file: &Option<Word>)
     }
 }
 
-/// Writes the session lines of the log that is kept, where a file is named for them. Where that fails nothing has
-/// changed but this file, and where no memory is found nothing has.
+/// Writes the session lines of the log that is kept, where a file is named for them. Where that fails, or no memory is
+/// found, no file has changed.
 pub(crate) fn write_record<F: Files, W: Wires>(
     alloc: Global,
     files: &mut F,

@@ -5,7 +5,7 @@ use Rattle.cf_demo.specs.declared.demo.Demo.{Demo}
 use Rattle.cf_demo.specs.Demo.{IsDemo}
 use Rattle.cf_wires.specs.Log.{Log}
 use Rattle.cf_answers.specs.declared.status.Status.{Status}
-use Rattle.cf_answers.specs.declared.status.Status.TheVariants.{Done, NoMemory, Usage, BadFile, FileFault, OutFault, NoPeers, Tired, Ended, LinkFault, NoNonce, NoHeight, NotThere, NotAddress}
+use Rattle.cf_answers.specs.declared.status.Status.TheVariants.{Done, NoMemory, Usage, BadFile, FileFault, OutFault, NoPeers, Tired, Ended, LinkFault, NoNonce, NoHeight, NotThere, NotInChain, NotAddress}
 use Rattle.cf_cli_demo.specs.Demo.{IsDemoText, IsDemoed, IsUntold, demo_lines, lines_over}
 use Rattle.cf_answers.specs.Writing.{IsOfText, IsWritten}
 
@@ -54,4 +54,5 @@ written_demoed LinkFault seed blocks text bytes before after log of same told wr
 written_demoed (NoNonce height) seed blocks text bytes before after log of same told written = absurd of
 written_demoed (NoHeight tip) seed blocks text bytes before after log of same told written = absurd of
 written_demoed (NotThere txid) seed blocks text bytes before after log of same told written = absurd of
+written_demoed (NotInChain block) seed blocks text bytes before after log of same told written = absurd of
 written_demoed (NotAddress cause) seed blocks text bytes before after log of same told written = absurd of

@@ -26,8 +26,12 @@ fn files_read(command: &Command) -> (Option<&str>, Option<&str>) {
             (Some(watch.as_str()), None)
         }
         Command::Scan { file, watch } => (Some(watch.as_str()), Some(file.as_str())),
-        Command::Filter { file, .. } | Command::Prove { file, .. } | Command::Check { file } => {
-            (Some(file.as_str()), None)
+        Command::Filter { file, .. } | Command::Prove { file, .. } => (Some(file.as_str()), None),
+        Command::Check { file, blocks, .. } => {
+            (
+                Some(file.as_str()),
+                blocks.as_ref().map(|blocks| blocks.as_str()),
+            )
         }
         Command::Serve { file, .. } => (Some(file.as_str()), None),
         Command::Address { .. } | Command::Make { .. } | Command::Demo { .. } => (None, None),

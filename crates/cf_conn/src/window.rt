@@ -1,5 +1,5 @@
 //! The next bytes of a source, which can be looked at before they are taken.
-ghost use Rattle.std.specs.Prelude.{◌≡◌, ◌⊎◌, ◌+◌, ◌≤◌, ◌<◌, nat_lt, true, false, [], length, drop, OnOk, OnErr, IfOk, IfSome};
+ghost use Rattle.std.specs.Prelude.{◌≡◌, ◌⊎◌, ◌+◌, ◌≤◌, ◌<◌, nat_lt, true, false, [], length, drop, vec_len, OnOk, OnErr, IfOk, IfSome};
 ghost use Rattle.cf_conn.specs.Source.{with_front};
 ghost use Rattle.cf_conn.specs.Steps.{Steps};
 ghost use Rattle.cf_conn.specs.Window.{CountsReads, IsOver, IsThere, beyond};
@@ -14,20 +14,20 @@ use std::marker::Model;
 #[derive(Drop)]
 pub struct Window {
     held: Vec<u8>,
-    // The bytes before this place were taken.
+    // The bytes before this place were taken. They are no more than those that are held.
     start: usize,
     room: usize,
 }
 
 impl Model for Window {
-    ghost use Rattle.std.specs.Prelude.{drop, vec_len, ◌≤◌};
+    ghost use Rattle.std.specs.Prelude.{drop, vec_len, ◌+◌, ◌≤◌};
     ghost use Rattle.cf_conn.specs.Window.{Pane};
 
     ghost Value = { Pane };
 
     ghost view = { λ w. record { held = drop w.start w.held.items; room = w.room } };
 
-    ghost invariant = { λ w. w.start ≤ vec_len w.held };
+    ghost invariant = { λ w. w.start + w.start ≤ vec_len w.held };
 }
 
 impl Window {
@@ -54,16 +54,7 @@ impl Window {
         requires { n ≤ length self.old.held }
         ensures { self.new ≡ record self.old { held = drop n self.old.held } }
     {
-        self.start += n;
-    }
-
-    fn let_go(&mut self)
-        ensures { self.new ≡ self.old }
-    {
-        if self.start >= self.held.len() - self.start {
-            drop(self.held.drain(..self.start));
-            self.start = 0;
-        }
+        self.start = let_go(&mut self.held, self.start + n);
     }
 
     // Reads one piece more, and answers how many bytes it has: at most 65,536.
@@ -78,7 +69,6 @@ impl Window {
         ensures steps { S.reads source.old source.new ⊎ (source.new ≡ source.old) }
         ensures piece { IfOk result (λ k. k ≤ 65536) }
     {
-        self.let_go();
         let mut piece = [0u8; 65_536];
         let most = self.room.min(piece.len());
         self.held.reserve(most)?;
@@ -121,4 +111,18 @@ impl Window {
         let n = source.read(&mut byte)?;
         Ok(n > 0)
     }
+}
+
+// The bytes before this place were taken: the place where those that are held begin then is answered. The taken ones
+// are let go once they are at least as many as those that are held, so each byte is moved at most once on average.
+fn let_go(held: &mut Vec<u8>, start: usize) -> usize
+    requires { start ≤ vec_len held.old }
+    ensures same { drop result held.new.items ≡ drop start held.old.items }
+    ensures few { result + result ≤ vec_len held.new }
+{
+    if start >= held.len() - start {
+        drop(held.drain(..start));
+        return 0;
+    }
+    start
 }

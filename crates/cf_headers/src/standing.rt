@@ -1,6 +1,8 @@
 //! Headers whose nodes stand already, as where several peers send the same ones. A guide is the place of a way that
 //! goes through such nodes. It's a guess: whoever takes a name from that way compares what the name's node has.
-ghost use Rattle.std.specs.Prelude.{◌≡◌, IfOk, vec_len};
+ghost use Rattle.std.specs.Prelude.{◌≡◌, ◌⊎◌, ◌↔◌, ◌-◌, ◌<◌, ◌≤◌, ℕ, true, length, IfOk, vec_len};
+ghost use Rattle.slab.specs.Slab.{get};
+ghost use Rattle.cf_headers.specs.Nodes.{StandsAt, StandTo, IsGuide};
 ghost use Rattle.cf_headers.specs.Entries.{IsChecked};
 
 use crate::check::{Hashing, check_all};
@@ -12,11 +14,24 @@ use cf_block::Header;
 use cf_bytes::{Hash32, NoMemory};
 use std::alloc::Global;
 
+// Whether the node of the name at a place has the header at that place.
+fn stands(pool: &Pool, names: &[u32], headers: &[Header], i: usize) -> bool
+    requires names { i < length names.now }
+    requires headers { i < length headers.now }
+    ensures { result ≡ true ↔ StandsAt (get pool.now.nodes) names.now headers.now i }
+{
+    pool.entry_of(names[i], &headers[i]).is_some()
+}
+
 // How many of the headers these names' nodes have in a row. Those before place `from` aren't looked at.
-fn count_standing(pool: &Pool, names: &[u32], headers: &[Header], from: usize) -> usize {
+fn count_standing(pool: &Pool, names: &[u32], headers: &[Header], from: usize) -> usize
+    ensures last { from < result → StandsAt (get pool.now.nodes) names.now headers.now (result - 1) }
+    ensures most { (many : ℕ) → StandTo (get pool.now.nodes) names.now headers.now many
+        → many ≤ from ⊎ many ≤ result }
+{
     let most = names.len().min(headers.len());
     for i in from..most {
-        if pool.entry_of(names[i], &headers[i]).is_none() {
+        if !stands(pool, names, headers, i) {
             return i;
         }
     }
@@ -25,7 +40,9 @@ fn count_standing(pool: &Pool, names: &[u32], headers: &[Header], from: usize) -
 
 /// The place of a way on which more of these headers stand in a row than on others, the first at height k + 1. Each way
 /// is looked at only from where the ones before it end, so hardly any header is compared twice.
-pub(crate) fn guide_for(pool: &Pool, ways: &[Way], k: usize, headers: &[Header]) -> usize {
+pub(crate) fn guide_for(pool: &Pool, ways: &[Way], k: usize, headers: &[Header]) -> usize
+    ensures { (reach : ℕ) × IsGuide (get pool.now.nodes) ways.now k headers.now result reach }
+{
     let mut guide = 0;
     let mut most = 0;
     for q in 0..ways.len() {

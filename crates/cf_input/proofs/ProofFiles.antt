@@ -69,7 +69,7 @@ block_refused tx bytes fault is = refused_by (proof_at bytes) tx fault is
 
 -- ---- the second line is refused
 
-pub second_refused : (bytes : List ℕ) (t : Tx) (cause : ProofCause) → tx_in_line (line_of bytes) ≡ Ok t → block_from (tx_spelling t) (after_line bytes) ≡ Err cause
-    → proof_file_of bytes ≡ Err (record { cause = cause; place = 2 })
+pub second_refused : (witness : Bool) (bytes : List ℕ) (t : Tx) (cause : ProofCause) → tx_in_line witness (line_of bytes) ≡ Ok t → block_from (tx_spelling t) (after_line bytes) ≡ Err cause
+    → proof_file_of witness bytes ≡ Err (record { cause = cause; place = 2 })
 unfolding proof_file_of
-second_refused bytes t cause first second = rw (first, second) refl
+second_refused witness bytes t cause first second = rw (first, second) refl

@@ -1,5 +1,5 @@
 -- statement: the file of a proof: a transaction, and the proof that it stands in a block.
-use Rattle.std.specs.Prelude.{ℕ, ◌==◌, if◌then◌else◌, List, codes, length, take, drop, Option, Some, None, Result, Ok, Err, bytes_eq}
+use Rattle.std.specs.Prelude.{ℕ, ◌==◌, if◌then◌else◌, Bool, true, false, List, codes, length, take, drop, Option, Some, None, Result, Ok, Err, bytes_eq}
 use Rattle.std.specs.List.{before_first, after_first}
 use Rattle.cf_bytes.specs.Cut.{Read, ◌>>=◌}
 use Rattle.cf_bytes.specs.declared.hash.Hash32.{Hash32}
@@ -9,6 +9,7 @@ use Rattle.cf_block.specs.declared.fault.BlockFaultKind.TheVariants.{Rest}
 use Rattle.cf_block.specs.declared.tx.Tx.{Tx}
 use Rattle.cf_block.specs.Header.{block_hash_of}
 use Rattle.cf_block.specs.Reading.{tx_at}
+use Rattle.cf_block.specs.Stored.{stored_tx_at}
 use Rattle.cf_block.specs.Tx.{tx_spelling, txid_of}
 use Rattle.cf_headers.specs.Rules.{is_within_target}
 use Rattle.cf_proof.specs.Checks.{parts_fault}
@@ -32,9 +33,15 @@ abbrev pub whole_tx : Read Tx BlockFault → Result Tx BlockFaultKind
 whole_tx (Ok x) = if length x.1 == 0 then Ok x.0 else Err Rest
 whole_tx (Err e) = Err e.0.kind
 
--- the transaction whose bytes these are, all of them
-abbrev pub tx_in : List ℕ → Result Tx BlockFaultKind
-tx_in bytes = whole_tx (tx_at bytes)
+-- the same, with or without witnesses
+abbrev pub whole_stored : Read Tx BlockFaultKind → Result Tx BlockFaultKind
+whole_stored (Ok x) = if length x.1 == 0 then Ok x.0 else Err Rest
+whole_stored (Err e) = Err e.0
+
+-- the transaction whose bytes these are, all of them: in the form without witnesses, or, where they may stand there, in either form
+abbrev pub tx_in : Bool → List ℕ → Result Tx BlockFaultKind
+tx_in false bytes = whole_tx (tx_at bytes)
+tx_in true bytes = whole_stored (stored_tx_at bytes)
 
 -- a transaction, its fault as that of the file
 abbrev pub as_tx : Result Tx BlockFaultKind → Result Tx ProofCause
@@ -42,13 +49,13 @@ as_tx (Ok t) = Ok t
 as_tx (Err kind) = Err (OfTx kind)
 
 -- the transaction by a line's bytes; a line without them is refused
-abbrev pub tx_of : Option (List ℕ) → Result Tx ProofCause
-tx_of None = Err BadLine
-tx_of (Some bytes) = as_tx (tx_in bytes)
+abbrev pub tx_of : Bool → Option (List ℕ) → Result Tx ProofCause
+tx_of witness None = Err BadLine
+tx_of witness (Some bytes) = as_tx (tx_in witness bytes)
 
 -- `tx HEX`
-abbrev pub tx_in_line : List ℕ → Result Tx ProofCause
-tx_in_line line = tx_of (bytes_after (codes "tx ") line)
+abbrev pub tx_in_line : Bool → List ℕ → Result Tx ProofCause
+tx_in_line witness line = tx_of witness (bytes_after (codes "tx ") line)
 
 -- ---- the proof
 
@@ -102,9 +109,9 @@ at_line place (Err cause) = Err (record { cause = cause; place = place })
 abbrev pub proven : Tx → Hash32 → Proven
 proven t block = record { block = block; txid = record { 0 = txid_of t } }
 
--- the block and the transaction that a file tells of, or its first fault
-unfoldable pub proof_file_of : List ℕ → Result Proven ProofFileFault
-proof_file_of bytes = do
-  t ← at_line 1 (tx_in_line (line_of bytes))
+-- the block and the transaction that a file tells of, or its first fault; its transaction may have witnesses, or may not
+unfoldable pub proof_file_of : Bool → List ℕ → Result Proven ProofFileFault
+proof_file_of witness bytes = do
+  t ← at_line 1 (tx_in_line witness (line_of bytes))
   block ← at_line 2 (block_from (tx_spelling t) (after_line bytes))
   Ok (proven t block)

@@ -78,9 +78,9 @@ address_app = one_app (codes "address") (codes "text")
 abbrev pub prove_app : App
 prove_app = two_app (codes "prove") (codes "file") (codes "txid")
 
--- check FILE
+-- check [--witness] FILE [BLOCKS]
 abbrev pub check_app : App
-check_app = one_app (codes "check") (codes "file")
+check_app = with_rule (with_rule (with_rule (new_app (codes "check")) (flag_rule (codes "witness"))) (needed (new_rule (codes "file")))) (new_rule (codes "blocks"))
 
 -- serve [--grow] [--connections N] FILE ADDRESS
 abbrev pub serve_app : App
@@ -265,7 +265,7 @@ prove_of met =
 
 -- the command `check`, by what was found for its arguments
 abbrev pub check_of : Met → Option Command
-check_of met = option_and_then (λ file. Some (Check file)) (text_of (codes "file") met)
+check_of met = option_and_then (λ file. Some (Check (is_set (codes "witness") met) file (text_of (codes "blocks") met))) (text_of (codes "file") met)
 
 -- an address has the form of a peer's name
 abbrev pub serve_of : Met → Option Command

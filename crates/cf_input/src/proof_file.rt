@@ -1,11 +1,11 @@
 //! The file of a proof: a transaction, and the proof that it stands in a block.
-ghost use Rattle.std.specs.Prelude.{◌≡◌, IfOk, option_map};
-ghost use Rattle.cf_block.specs.{tx_spelling};
+ghost use Rattle.std.specs.Prelude.{◌≡◌, IfOk, false, option_map};
+ghost use Rattle.cf_block.specs.{stored_tx_at, tx_spelling};
 ghost use Rattle.cf_input.specs.Lines.{GivesRead};
-ghost use Rattle.cf_input.specs.ProofFile.{bytes_after, tx_in, tx_in_line, block_of, block_in_line, block_from, proof_file_of};
+ghost use Rattle.cf_input.specs.ProofFile.{bytes_after, whole_stored, tx_in, tx_in_line, block_of, block_in_line, block_from, proof_file_of};
 
 use crate::lines::{cut_at, read_hex};
-use cf_block::{BlockFaultKind, Tx, parse_tx, txid};
+use cf_block::{BlockFaultKind, Tx, parse_tx, read_stored_tx, txid};
 use cf_bytes::{Cut, Hash32, NoMemory, Refused};
 use cf_headers::meets_target;
 use cf_proof::{ProofFault, check_proof};
@@ -54,9 +54,9 @@ fn read_after(alloc: Global, word: &[u8], line: &[u8]) -> Result<Option<Vec<u8>>
     }
 }
 
-// The transaction whose bytes these are.
-fn read_tx(alloc: Global, bytes: &[u8]) -> Result<Tx, Refused<BlockFaultKind>>
-    ensures { GivesRead (λ t. t) (tx_in bytes.now) result }
+// The transaction whose bytes these are, in its form without witnesses.
+fn read_plain(alloc: Global, bytes: &[u8]) -> Result<Tx, Refused<BlockFaultKind>>
+    ensures { GivesRead (λ t. t) (tx_in false bytes.now) result }
 {
     let mut cut = Cut::new(bytes);
     let tx = match parse_tx(alloc, &mut cut) {
@@ -70,16 +70,43 @@ fn read_tx(alloc: Global, bytes: &[u8]) -> Result<Tx, Refused<BlockFaultKind>>
     Ok(tx)
 }
 
+// The same in its form with witnesses, or without.
+fn read_stored(alloc: Global, bytes: &[u8]) -> Result<Tx, Refused<BlockFaultKind>>
+    ensures { GivesRead (λ t. t) (whole_stored (stored_tx_at bytes.now)) result }
+{
+    let mut cut = Cut::new(bytes);
+    let tx = match read_stored_tx(alloc, &mut cut) {
+        Ok(tx) => tx,
+        Err(Refused::No(kind)) => return Err(Refused::No(kind)),
+        Err(Refused::NoMemory) => return Err(Refused::NoMemory),
+    };
+    if !cut.rest().is_empty() {
+        return Err(Refused::No(BlockFaultKind::Rest));
+    }
+    Ok(tx)
+}
+
+// The transaction whose bytes these are, which may have witnesses, or may not.
+fn read_tx(alloc: Global, witness: bool, bytes: &[u8]) -> Result<Tx, Refused<BlockFaultKind>>
+    ensures { GivesRead (λ t. t) (tx_in witness bytes.now) result }
+{
+    if witness {
+        read_stored(alloc, bytes)
+    } else {
+        read_plain(alloc, bytes)
+    }
+}
+
 // The transaction of the first line.
-fn read_tx_line(alloc: Global, line: &[u8]) -> Result<Tx, Refused<ProofCause>>
-    ensures { GivesRead (λ t. t) (tx_in_line line.now) result }
+fn read_tx_line(alloc: Global, witness: bool, line: &[u8]) -> Result<Tx, Refused<ProofCause>>
+    ensures { GivesRead (λ t. t) (tx_in_line witness line.now) result }
 {
     let bytes = match read_after(alloc, b"tx ", line) {
         Ok(Some(bytes)) => bytes,
         Ok(None) => return Err(Refused::No(ProofCause::BadLine)),
         Err(NoMemory) => return Err(Refused::NoMemory),
     };
-    match read_tx(alloc, &bytes) {
+    match read_tx(alloc, witness, &bytes) {
         Ok(tx) => Ok(tx),
         Err(Refused::No(kind)) => Err(Refused::No(ProofCause::Tx(kind))),
         Err(Refused::NoMemory) => Err(Refused::NoMemory),
@@ -125,18 +152,23 @@ fn read_block_from(alloc: Global, bytes: &[u8], tx: &Tx) -> Result<Hash32, Refus
 }
 
 /// The hashes of the transaction and of the block of a file of two lines: `tx HEX` with the transaction's bytes, and
-/// `proof HEX` with those of a proof of its block (`check_proof`). Digits are of either case. The last LF may lack.
+/// `proof HEX` with those of a proof of its block (`check_proof`). Digits are of either case. The last LF may lack. The
+/// transaction has no witnesses; with `witness` it may have some, which don't count (BIP 144, "Serialization").
 ///
 /// # Errors
 ///
 /// The first line that is refused, for the first of these: `BadLine`, `Tx` with the first fault of the transaction,
 /// `Proof` with the first fault of the proof, `Work`. A byte after the second line is its `BadLine`.
 #[tactic(auto, unfolding(crate::specs::ProofFile::proof_file_of))]
-pub fn read_proof_file(alloc: Global, bytes: &[u8]) -> Result<Proven, Refused<ProofFileFault>>
-    ensures { GivesRead (λ p. p) (proof_file_of bytes.now) result }
+pub fn read_proof_file(
+    alloc: Global,
+    witness: bool,
+    bytes: &[u8],
+) -> Result<Proven, Refused<ProofFileFault>>
+    ensures { GivesRead (λ p. p) (proof_file_of witness bytes.now) result }
 {
     let (line, rest) = cut_at(bytes, b'\n');
-    let tx = match read_tx_line(alloc, line) {
+    let tx = match read_tx_line(alloc, witness, line) {
         Ok(tx) => tx,
         Err(Refused::No(cause)) => return Err(Refused::No(ProofFileFault { cause, place: 1 })),
         Err(Refused::NoMemory) => return Err(Refused::NoMemory),

@@ -3,7 +3,7 @@ ghost use Rattle.std.specs.Prelude.{◌≡◌, ◌==◌, IfOk, IfErr, [], map, f
 ghost use Rattle.std.specs.List.{list_any};
 ghost use Rattle.clap.specs.Words.{App, Rule, app_of, rule_of, new_rule, subcommand_of, subcommand_rows_of, fault_of, with_rule};
 ghost use Rattle.clap.specs.declared.builder.command.Command.TheViews.{out-Command as fields_of};
-ghost use Rattle.cf_input.specs.Words.{flag_rule, option_rule, several, needed, replay_app, options_app, peers_app, serve_app, one_app, two_app, make_app, with_sub, client_app, cli_app, text_of, texts_of, is_met, is_set, turns_of, workers_of, connections_of, height_of, seed_of, made_of, played_of, replay_of, over_peers, over_peers_of, scan_of, filter_of, address_of, hash_in, prove_of, check_of, serve_of, make_of, demo_of, HasFewPeers, asked_of, is_faultless, command_of, is_help_word, is_version_word};
+ghost use Rattle.cf_input.specs.Words.{flag_rule, option_rule, several, needed, replay_app, options_app, peers_app, check_app, serve_app, one_app, two_app, make_app, with_sub, client_app, cli_app, text_of, texts_of, is_met, is_set, turns_of, workers_of, connections_of, height_of, seed_of, made_of, played_of, replay_of, over_peers, over_peers_of, scan_of, filter_of, address_of, hash_in, prove_of, check_of, serve_of, make_of, demo_of, HasFewPeers, asked_of, is_faultless, command_of, is_help_word, is_version_word};
 ghost use Rattle.cf_input.specs.Commands.{GivesOrUsage, IfUsage, refusal_of};
 
 use crate::number::{number_at_most, number_within};
@@ -90,9 +90,12 @@ pub enum Command {
         file: Word,
         txid: Hash32,
     },
-    /// What the file of a proof proves.
+    /// What the file of a proof proves, whose transaction may have witnesses, or may not; and at which height of a block
+    /// file, where one is named.
     Check {
+        witness: bool,
         file: Word,
+        blocks: Option<Word>,
     },
     /// The chain of a block file, served to so many connections to an address: as it is, or grown by what they bring.
     Serve {
@@ -140,6 +143,13 @@ fn word_arg<'a>(alloc: Global, id: &'a str) -> Arg<'a>
     ensures { (rule_of result ≡ needed (new_rule id.entry.now)) × (result.global ≡ false) }
 {
     Arg::new(alloc, id).required(true)
+}
+
+// An argument of one word, which may lack.
+fn further_arg<'a>(alloc: Global, id: &'a str) -> Arg<'a>
+    ensures { (rule_of result ≡ new_rule id.entry.now) × (result.global ≡ false) }
+{
+    Arg::new(alloc, id)
 }
 
 // The command with one more argument, where it was made.
@@ -211,6 +221,16 @@ fn two_words<'a>(
 {
     let command = one_word(alloc, name, one);
     with_arg(command, word_arg(alloc, two))
+}
+
+fn check_command<'a>(alloc: Global) -> Result<clap::Command<'a>, AllocError>
+    ensures app { IfOk result (λ c. app_of c ≡ check_app) }
+    ensures globals { IfOk result (λ c. (fields_of c).has_globals ≡ false) }
+{
+    let command = Ok(clap::Command::new(alloc, "check"));
+    let command = with_arg(command, flag_arg(alloc, "witness"));
+    let command = with_arg(command, word_arg(alloc, "file"));
+    with_arg(command, further_arg(alloc, "blocks"))
 }
 
 fn serve_command<'a>(alloc: Global) -> Result<clap::Command<'a>, AllocError>
@@ -289,7 +309,7 @@ pub(crate) fn cli_command<'a>(alloc: Global) -> Result<clap::Command<'a>, AllocE
     let command = add(command, two_words(alloc, "filter", "file", "height"));
     let command = add(command, one_word(alloc, "address", "text"));
     let command = add(command, two_words(alloc, "prove", "file", "txid"));
-    let command = add(command, one_word(alloc, "check", "file"));
+    let command = add(command, check_command(alloc));
     let command = add(command, serve_command(alloc));
     let command = add(command, make_command(alloc));
     add(command, two_words(alloc, "demo", "seed", "blocks"))
@@ -543,8 +563,13 @@ fn read_check(alloc: Global, matches: &ArgMatches) -> Result<Command, Refused<Us
     ensures { GivesOrUsage (check_of (subcommand_rows_of matches.now)) result }
 {
     let file = text_of(matches, "file").ok_or(Usage)?;
+    let chain = word_where(alloc, text_of(matches, "blocks"))?;
     let file = Word::new(alloc, file)?;
-    Ok(Command::Check { file })
+    Ok(Command::Check {
+        witness: is_set(matches, "witness"),
+        file,
+        blocks: chain,
+    })
 }
 
 fn read_serve(alloc: Global, matches: &ArgMatches) -> Result<Command, Refused<Usage>>

@@ -1,7 +1,7 @@
 -- What reading a file does to the count of faults.
 use Rattle.std.proofs.Common.{◌≡◌, ◌≢◌, ℕ, Err, refl}
 use Rattle.cf_answers.specs.declared.status.Status.{Status}
-use Rattle.cf_answers.specs.declared.status.Status.TheVariants.{Done, NoMemory, Usage, BadFile, FileFault, OutFault, NoPeers, Tired, Ended, LinkFault, NoNonce, NoHeight, NotThere, NotAddress}
+use Rattle.cf_answers.specs.declared.status.Status.TheVariants.{Done, NoMemory, Usage, BadFile, FileFault, OutFault, NoPeers, Tired, Ended, LinkFault, NoNonce, NoHeight, NotThere, NotInChain, NotAddress}
 use Rattle.cf_loading.specs.Verdicts.{CountsFile}
 
 -- an answer other than FileFault leaves it
@@ -19,4 +19,5 @@ counts_fine LinkFault before after same ne = same
 counts_fine (NoNonce height) before after same ne = same
 counts_fine (NoHeight tip) before after same ne = same
 counts_fine (NotThere txid) before after same ne = same
+counts_fine (NotInChain block) before after same ne = same
 counts_fine (NotAddress cause) before after same ne = same

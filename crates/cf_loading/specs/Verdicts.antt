@@ -1,5 +1,5 @@
 -- statement: what stands under a name that a command reads, and what reading it answers.
-use Rattle.std.specs.Prelude.{◌≡◌, ℕ, nat_lt, if◌then◌else◌, List, length, Option, Some, None, Result, Ok, Err}
+use Rattle.std.specs.Prelude.{◌≡◌, ℕ, Bool, nat_lt, if◌then◌else◌, List, length, Option, Some, None, Result, Ok, Err}
 use Rattle.cf_bytes.specs.Outside.{HasRisen}
 use Rattle.cf_bytes.specs.declared.files.FileFail.{FileFail}
 use Rattle.cf_bytes.specs.declared.files.FileFail.TheVariants.{Failed, TooBig as TooMuch, NoMemory as OutOfMemory}
@@ -63,8 +63,8 @@ abbrev pub blocks_verdict : Option (List ℕ) → FileVerdict
 blocks_verdict = file_verdict Blocks most_blocks (λ bytes. blocks_read (blocks_at bytes))
 
 -- what the file of a proof is judged as: missing, too big, refused with its first bad line and cause, or good
-abbrev pub proof_verdict : Option (List ℕ) → FileVerdict
-proof_verdict = file_verdict Proof most_proof (λ bytes. read_verdict (λ fault. Bad Proof fault.place (OfProof fault.cause)) (proof_file_of bytes))
+abbrev pub proof_verdict : Bool → Option (List ℕ) → FileVerdict
+proof_verdict witness = file_verdict Proof most_proof (λ bytes. read_verdict (λ fault. Bad Proof fault.place (OfProof fault.cause)) (proof_file_of witness bytes))
 
 -- what reading a file answers: a good one, or the program's answer
 abbrev pub IsReadAs : {X : Type 0} → FileVerdict → Result X Status → Type 0

@@ -255,10 +255,15 @@ pub fn scan_file<F: Files>(
 /// `BadFile` of the file of a proof where it has more than 4,000,000 bytes, at place 0, or else for its first line that
 /// is refused, counted from 1. `FileFault` where there is no such file, or it can't be read.
 #[tactic(auto, using(crate::proofs::Asking::is_read))]
-pub fn load_proof<F: Files>(alloc: Global, files: &mut F, name: &str) -> Result<Proven, Status>
-    ensures answer { IfSome (F.files files.old) (λ m. IsReadAs (proof_verdict (finite.get m name.now)) result) }
+pub fn load_proof<F: Files>(
+    alloc: Global,
+    files: &mut F,
+    witness: bool,
+    name: &str,
+) -> Result<Proven, Status>
+    ensures answer { IfSome (F.files files.old) (λ m. IsReadAs (proof_verdict witness (finite.get m name.now)) result) }
     ensures proven { IfOk result
-        (λ p. IfSome (F.files files.old) (λ m. IfSome (finite.get m name.now) (λ bytes. proof_file_of bytes ≡ Ok p))) }
+        (λ p. IfSome (F.files files.old) (λ m. IfSome (finite.get m name.now) (λ bytes. proof_file_of witness bytes ≡ Ok p))) }
     ensures same { F.files files.new ≡ F.files files.old }
     ensures fault { IsErrOf result Status.FileFault → HasRisen (F.faults files.old) (F.faults files.new) }
     ensures count { CountsFile result (F.faults files.old) (F.faults files.new) }
@@ -266,7 +271,7 @@ pub fn load_proof<F: Files>(alloc: Global, files: &mut F, name: &str) -> Result<
     ensures files { IsRead F.reads name.now files.old files.new }
 {
     match files.read(alloc, name, MOST_PROOF) {
-        Ok(bytes) => match read_proof_file(alloc, &bytes) {
+        Ok(bytes) => match read_proof_file(alloc, witness, &bytes) {
             Ok(proven) => Ok(proven),
             Err(Refused::No(fault)) => Err(Status::BadFile {
                 which: Which::Proof,

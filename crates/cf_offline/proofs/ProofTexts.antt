@@ -37,7 +37,7 @@ use Rattle.cf_input.specs.declared.proof_file.ProofCause.TheVariants.{BadLine, W
 use Rattle.cf_input.specs.declared.proof_file.Proven.{Proven}
 use Rattle.cf_input.proofs.LineSteps.{before_true, before_false, after_true, after_false}
 use Rattle.cf_answers.specs.declared.status.Status.{Status}
-use Rattle.cf_answers.specs.declared.status.Status.TheVariants.{Done, NoMemory, Usage, BadFile, FileFault, OutFault, NoPeers, Tired, Ended, LinkFault, NoNonce, NoHeight, NotThere, NotAddress}
+use Rattle.cf_answers.specs.declared.status.Status.TheVariants.{Done, NoMemory, Usage, BadFile, FileFault, OutFault, NoPeers, Tired, Ended, LinkFault, NoNonce, NoHeight, NotThere, NotInChain, NotAddress}
 use Rattle.cf_offline.specs.Proving.{proof_text, IsTextAt, IsProofText, in_text, Checks, Takes, TakesWhatIsProved}
 use Rattle.cf_answers.specs.Writing.{named_line, IsWritten}
 use Rattle.cf_loading.specs.Verdicts.{IsJudged, Good, proof_verdict}
@@ -93,10 +93,10 @@ after_tx hex = refl
 after_proof : (hex : List ℕ) → bytes_after (codes "proof ") (codes "proof " ++ hex) ≡ bytes_of_hex hex
 after_proof hex = refl
 
-tx_again_line : (t : Tx) → IsTx t → IsBytes (tx_spelling t) → tx_in_line (codes "tx " ++ encode_lower (tx_spelling t)) ≡ Ok t
+tx_again_line : (t : Tx) → IsTx t → IsBytes (tx_spelling t) → tx_in_line false (codes "tx " ++ encode_lower (tx_spelling t)) ≡ Ok t
 tx_again_line t is are =
     let read : tx_at (tx_spelling t) ≡ Ok (t, []) = ap tx_at (sym (append-nil (tx_spelling t))) ∙ tx_again t [] is in
-    ap tx_of (after_tx (encode_lower (tx_spelling t)) ∙ hex_read (tx_spelling t) are) ∙ ap (λ r. as_tx (whole_tx r)) read
+    ap (tx_of false) (after_tx (encode_lower (tx_spelling t)) ∙ hex_read (tx_spelling t) are) ∙ ap (λ r. as_tx (whole_tx r)) read
 
 proof_again_line : (tx proof : List ℕ) → IsBytes proof → block_from tx (named_line (codes "proof") (encode_lower proof)) ≡ block_of tx proof
 proof_again_line tx proof are =
@@ -129,7 +129,7 @@ stands_good txid blocks height place good s = part_stands s.lower s.block s.high
 
 read_again : (b : Block) (place : ℕ) (text : List ℕ) → IsBlock b → (at : IsTextAt b place text) → place < length b.txs → is_within_target (block_hash_of b.header) ≡ true
     → (p : Proof) → proof_at at.proof ≡ Ok p → parts_fault p (tx_spelling at.tx) ≡ None → p.header ≡ b.header
-    → proof_file_of text ≡ Ok (proven at.tx (record { 0 = block_hash_of b.header }))
+    → proof_file_of false text ≡ Ok (proven at.tx (record { 0 = block_hash_of b.header }))
 unfolding proof_file_of
 read_again b place text is at there within p read fine same =
     let tx : List ℕ = tx_spelling at.tx in
@@ -138,7 +138,7 @@ read_again b place text is at there within p read fine same =
     let plain : IsLine (codes "tx " ++ encode_lower tx) = hex_line tx at.tx_bytes in
     let one : line_of text ≡ codes "tx " ++ encode_lower tx = ap line_of split ∙ first_line (codes "tx " ++ encode_lower tx) rest plain in
     let more : after_line text ≡ rest = ap after_line split ∙ later_lines (codes "tx " ++ encode_lower tx) rest plain in
-    let first : tx_in_line (line_of text) ≡ Ok at.tx = ap tx_in_line one ∙ tx_again_line at.tx (tx_fits b.txs place at.tx is.txs there at.tx_is) at.tx_bytes in
+    let first : tx_in_line false (line_of text) ≡ Ok at.tx = ap (tx_in_line false) one ∙ tx_again_line at.tx (tx_fits b.txs place at.tx is.txs there at.tx_is) at.tx_bytes in
     let second : block_from tx (after_line text) ≡ Ok (record { 0 = block_hash_of b.header }) =
     ap (block_from tx) more ∙ proof_again_line tx at.proof at.proof_bytes ∙ passes b place at.tx at.proof at.made p read fine same within in
     rw (first, second) refl
@@ -183,7 +183,7 @@ as_proven block txid = record { block = record { 0 = block }; txid = record { 0 
 
 -- what is written of a good chain is a good file of a proof
 pub record IsGoodText (text : List ℕ) (p : Proven) : Type 0 where
-  pub read : proof_file_of text ≡ Ok p
+  pub read : proof_file_of false text ≡ Ok p
   pub short : length text ≤ 4000000
 
 pub good_text : (txid : List ℕ) (blocks : List Block) (text : List ℕ) → IsGoodChain blocks → (made : IsProofText txid blocks text)
@@ -217,23 +217,24 @@ takes_by LinkFault before after p judged written = absurd written
 takes_by (NoNonce height) before after p judged written = written
 takes_by (NoHeight tip) before after p judged written = written
 takes_by (NotThere txid) before after p judged written = written
+takes_by (NotInChain block) before after p judged written = written
 takes_by (NotAddress cause) before after p judged written = written
 
-good_verdict : (bytes : List ℕ) (p : Proven) → IsGoodText bytes p → proof_verdict (Some bytes) ≡ Good
+good_verdict : (bytes : List ℕ) (p : Proven) → IsGoodText bytes p → proof_verdict false (Some bytes) ≡ Good
 good_verdict bytes p is = rw (le-ltb 4000000 (length bytes) is.short, is.read) refl
 
-takes_bytes : (status : Status) (before after : Option (List ℕ)) (bytes : List ℕ) → IsJudged (proof_verdict (Some bytes)) status → Checks status (proof_file_of bytes) before after → TakesWhatIsProved status bytes before after
+takes_bytes : (status : Status) (before after : Option (List ℕ)) (bytes : List ℕ) → IsJudged (proof_verdict false (Some bytes)) status → Checks status (proof_file_of false bytes) before after → TakesWhatIsProved status bytes before after
 takes_bytes status before after bytes judged checks txid blocks good made =
     let is = good_text txid blocks bytes good made in
     let p : Proven = record { block = record { 0 = block_hash_of made.stands.block.header }; txid = record { 0 = txid } } in
     takes_by status before after p (subst (λ v. IsJudged v status) (good_verdict bytes p is) judged) (subst (λ r. Checks status r before after) is.read checks)
 
-takes_under : (status : Status) (before after o : Option (List ℕ)) → IsJudged (proof_verdict o) status → IfSome o (λ b. Checks status (proof_file_of b) before after) → IfSome o (λ b. TakesWhatIsProved status b before after)
+takes_under : (status : Status) (before after o : Option (List ℕ)) → IsJudged (proof_verdict false o) status → IfSome o (λ b. Checks status (proof_file_of false b) before after) → IfSome o (λ b. TakesWhatIsProved status b before after)
 takes_under status before after None judged checks = tt
 takes_under status before after (Some bytes) judged checks = takes_bytes status before after bytes judged checks
 
-pub takes : (status : Status) (before after : Option (List ℕ)) (files : Option Named) (file : List ℕ) → IfSome files (λ m. IsJudged (proof_verdict (finite.get m file)) status)
-    → IfSome files (λ m. IfSome (finite.get m file) (λ b. Checks status (proof_file_of b) before after)) → IfSome files (λ m. IfSome (finite.get m file) (λ b. TakesWhatIsProved status b before after))
+pub takes : (status : Status) (before after : Option (List ℕ)) (files : Option Named) (file : List ℕ) → IfSome files (λ m. IsJudged (proof_verdict false (finite.get m file)) status)
+    → IfSome files (λ m. IfSome (finite.get m file) (λ b. Checks status (proof_file_of false b) before after)) → IfSome files (λ m. IfSome (finite.get m file) (λ b. TakesWhatIsProved status b before after))
 takes status before after None file judged checks = tt
 takes status before after (Some m) file judged checks = takes_under status before after (finite.get m file) judged checks
 

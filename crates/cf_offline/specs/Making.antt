@@ -1,6 +1,6 @@
 -- statement: what is promised of `make`.
 use Rattle.std.specs.Prelude.{◌≡◌, ℕ, Bool, List, [], Option}
-use Rattle.cf_bytes.specs.Files.{Named, SameElsewhere, with_file}
+use Rattle.cf_bytes.specs.Files.{Named, with_file}
 use Rattle.cf_block.specs.declared.tx.Block.{Block}
 use Rattle.cf_make.specs.Made.{IsExtension, StopsAt}
 use Rattle.cf_make.specs.Records.{made_records_of}
@@ -18,6 +18,6 @@ pub record IsMade (witness : Bool) (seed blocks : ℕ) (file : List ℕ) (before
 abbrev pub IsMaking : Status → Bool → ℕ → ℕ → List ℕ → Option Named → Option Named → Type 0
 IsMaking Done witness seed blocks file before after = IsMade witness seed blocks file before after
 IsMaking (NoNonce height) witness seed blocks file before after = StopsAt [] seed blocks height × (after ≡ before)
-IsMaking FileFault witness seed blocks file before after = SameElsewhere file before after
+IsMaking FileFault witness seed blocks file before after = after ≡ before
 IsMaking NoMemory witness seed blocks file before after = after ≡ before
 IsMaking status witness seed blocks file before after = ⊥

@@ -14,8 +14,7 @@ use std::alloc::Global;
 /// memory.
 ///
 /// The answer is `Done` where the file was written, and `NoNonce` with the lowest height at which none of the nonces
-/// from 0 to 65,535 serves; `FileFault` comes where the file can't be written, which alone may have changed. But for
-/// these two, `Done` and `FileFault`, nothing has changed.
+/// from 0 to 65,535 serves; `FileFault` comes where the file can't be written. But for `Done` no file has changed.
 pub fn make<F: Files>(
     alloc: Global,
     files: &mut F,

@@ -88,6 +88,7 @@ impl Files for MapFiles {
 
     ghost opens = { λ before name _ result after.
         IfOk result (λ _. IfSome (finite.get before.files name) (λ bytes. after.left ≡ bytes))
+        × OnErr result (after.left ≡ [])
         × (after ≡ record before { left = after.left; plan = after_call before.plan (has_file before name) }) };
 
     ghost parts = { λ before room result after.
@@ -120,9 +121,10 @@ impl Files for MapFiles {
         Ok(Vec::from_slice(alloc, bytes)?)
     }
 
-    /// Fails where the call is to fail, and where no file has this name.
+    /// Fails where the call is to fail, and where no file has this name. After an error nothing is left to be read.
     fn open(&mut self, name: &str, most: usize) -> Result<(), FileFail>
         ensures answer { OpenOf (finite.get self.old.files name.now) most (Some self.new.left) result }
+        ensures shut { OnErr result (self.new.left ≡ []) }
         ensures same { Some self.new.files ≡ Some self.old.files }
         ensures count { Counts result self.old.plan.faults self.new.plan.faults }
         ensures failed { IsErrOf result FileFail.Failed
@@ -132,6 +134,8 @@ impl Files for MapFiles {
     {
         let found = find(&self.log, name);
         let is_there = found.is_some();
+        self.opened.clear();
+        self.start = 0;
         if self.plan.call(is_there).is_err() {
             return Err(FileFail::Failed);
         }
@@ -141,8 +145,6 @@ impl Files for MapFiles {
         if most < bytes.len() {
             return Err(FileFail::TooBig);
         }
-        self.opened.clear();
-        self.start = 0;
         self.opened.extend_from_slice(bytes)?;
         Ok(())
     }

@@ -1,6 +1,5 @@
 use Rattle.std.proofs.lemmas.Result.{err_from_is_err_and}
-use Rattle.std.proofs.Common.{rules, ◌≡◌, ℕ, List, ◌++◌, length, IfOk, Ok, ◌+◌, ◌-◌, ◌<◌, ◌≤◌, [], ◌∷◌, MutBor, arith, length-append}
-use Rattle.std.specs.List.{flat_map, AllByRecursion}
+use Rattle.std.proofs.Common.{[], ◌∷◌, arith, length-append}
 use Rattle.cf_bytes.specs.Lists.{list_at}
 use Rattle.cf_bytes.proofs.ListLoops.{goes_on, is_done, one_more, all_more, refused}
 use Rattle.cf_bytes.proofs.lists.read_list.Goals as goal

@@ -9,7 +9,7 @@ use Rattle.cf_cli_demo.specs.Demo.{IsDemoed}
 use Rattle.cf_cli_serve.specs.Serving.{IsServing}
 use Rattle.cf_link.specs.Links.{LinkTold, link_now}
 use Rattle.cf_offline.specs.Making.{IsMaking}
-use Rattle.cf_offline.specs.Proving.{IsOfProve}
+use Rattle.cf_offline.specs.Proving.{IsOfCheck, IsOfProve}
 use Rattle.cf_offline.specs.Reading.{IsAddressed, IsOfFilter, IsOfScan}
 use Rattle.cf_played.specs.Told.{log_of as played_log}
 use Rattle.cf_wires.specs.Memory.{told_of}
@@ -142,11 +142,11 @@ returns-in-Prove g c =
 
 pub returns-in-Check : goal.returns-in-Check
 returns-in-Check g c =
-    let known : Status → Type 0 = λ s. IsOfScan s (g.O.Sink.written c.args.out.now) (g.O.Sink.written c.check.new.out) in
+    let known : Status → Type 0 = λ s. IsOfCheck s (g.O.Sink.written c.args.out.now) (g.O.Sink.written c.check.new.out) in
     rw c.in-Check.is (record {
       judged = rw c.as_str-in-Check.ensures at c.check.ensures.judged;
       does = rw c.as_str-in-Check.ensures at c.check.ensures.checked;
-      files = record { unchanged = λ off. c.check.ensures.unchanged; asked = (c.check.new.files, inr (c.check.new.files, rw c.as_str-in-Check.ensures at c.check.ensures.files, refl), refl); fault = c.check.ensures.file_fault; fine = c.check.ensures.file_fine };
+      files = record { unchanged = λ off. c.check.ensures.unchanged; asked = (c.check.new.files, rw c.as_str-in-Check.ensures at c.check.ensures.files, refl); fault = c.check.ensures.file_fault; fine = c.check.ensures.file_fine };
       wires = wires_stay c.requires.wires;
       tape = tape_stays c.requires.tape;
       played = played_stays;
