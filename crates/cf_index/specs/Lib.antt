@@ -7,5 +7,4 @@ pub mod ByHash
 pub mod HeightMap
 pub mod Indexed
 pub mod Finding
-pub mod Loading
 pub use Rattle.cf_index.specs.Finding.{first_place, StandsAt}

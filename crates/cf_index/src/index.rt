@@ -1,11 +1,11 @@
 //! The index of a checked chain: its blocks by their heights and their hashes, with their filters.
-ghost use Rattle.std.specs.Prelude.{All, None, ◌≡◌, ◌≤◌, ◌<◌, ◌+◌, ◌∷◌, ◌++◌, [], length, OnOk, OnErr, map, IfOk, option_map, option_copied, position, slice_get};
+ghost use Rattle.std.specs.Prelude.{All, None, Some, ◌≡◌, ◌≤◌, ◌<◌, ◌+◌, ◌∷◌, ◌++◌, [], length, OnOk, OnErr, map, IfOk, option_map, option_copied, position, slice_get};
 ghost use Rattle.std.specs.FinMap.{get, empty};
 ghost use Rattle.std.specs.Thread.{IsSync};
 ghost use Rattle.cf_bytes.specs.declared.hash.Hash32.{Hash32};
 ghost use Rattle.cf_block.specs.{AreTxids, block_hash_of, IsBlock};
 ghost use Rattle.cf_chain.specs.{filter_at, filters_of, after_block, coins_after, IsGoodChain, headers_of, all_blocks, block_height};
-ghost use Rattle.cf_headers.specs.{height_limit, tip_hash, same};
+ghost use Rattle.cf_headers.specs.{height_limit, past_after, tip_hash, same};
 ghost use Rattle.cf_coins.specs.{spend_txs};
 ghost use Rattle.cf_filter.specs.{filter_hash_of};
 ghost use Rattle.cf_index.specs.Adding.{AreTheirs, last_header};
@@ -158,6 +158,16 @@ fn put_all(
     }
 }
 
+// What the next block is judged by, once one with this time was put on and these are the coins after it: they are kept,
+// so no later block has the chain read anew for them.
+fn go_on(past: &mut Past, kept: &mut Option<Coins>, time: u32, coins: Coins)
+    ensures times { past.new ≡ past_after time past.old }
+    ensures coins { kept.new ≡ Some coins }
+{
+    past.push(time);
+    *kept = Some(coins);
+}
+
 /// A checked chain with its filters, by height and by hash. Contracts see the list of its blocks above genesis, the
 /// lowest first.
 #[derive(Drop)]
@@ -268,8 +278,7 @@ impl Index {
             filter,
             hash,
         )?;
-        self.past.push(time);
-        self.coins = Some(coins);
+        go_on(&mut self.past, &mut self.coins, time, coins);
         Ok(())
     }
 

@@ -10,7 +10,6 @@ mod filters;
 mod heights;
 mod index;
 mod laws;
-mod load;
 mod shared;
 mod source;
 mod tx_index;

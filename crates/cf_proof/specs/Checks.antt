@@ -1,5 +1,5 @@
 -- statement: the first thing that is wrong with a proof of a transaction.
-use Rattle.std.specs.Prelude.{◌≡◌, ℕ, ◌*◌, ◌==◌, nat_eq, nat_lt, nat_le, Bool, not, ◌||◌, if◌then◌else◌, List, length, Option, Some, None, Result, Ok, Err}
+use Rattle.std.specs.Prelude.{◌≡◌, ℕ, ◌*◌, ◌<◌, ◌≤◌, ◌==◌, nat_eq, nat_lt, nat_le, Bool, not, ◌||◌, if◌then◌else◌, List, length, Option, Some, None, Result, Ok, Err}
 use Rattle.std.specs.List.{list_any}
 use Rattle.std.specs.Cmp.Lexicographic.{pointwise}
 use Rattle.cf_bytes.specs.Hash.{hash_of}
@@ -45,6 +45,13 @@ sized_fault p size txid =
     else if size == 64 then Some Tx64
     else if nat_lt (8 * length p.flags) (length p.hashes) then Some Bits
     else walk_fault p.header.root.0 txid (walk_of p)
+
+-- a proof's counts: few enough transactions, at least one, and for its hashes enough of them and enough bits
+pub record HasCounts (p : Proof) : Type 0 where
+  pub some : 0 < p.total
+  pub few : p.total ≤ 16666
+  pub hashes : length p.hashes ≤ p.total
+  pub bits : length p.hashes ≤ 8 * length p.flags
 
 -- of the parts of a proof, for a transaction's bytes
 abbrev pub parts_fault : Proof → List ℕ → Option ProofFault

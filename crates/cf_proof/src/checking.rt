@@ -1,8 +1,8 @@
 //! Checking proofs.
-ghost use Rattle.std.specs.Prelude.{◌≡◌, ◌*◌, ◌<◌, ◌≤◌, ◌++◌, length, nat_eq, IfOk, OnOk, Some, None};
+ghost use Rattle.std.specs.Prelude.{◌≡◌, ◌*◌, ◌<◌, ◌≤◌, ◌++◌, length, ℕ, List, nat_eq, IfOk, IfSome, OnOk, Some, None};
 ghost use Rattle.cf_block.specs.{tx_spelling, txid_of, bytes_of};
 ghost use Rattle.cf_proof.specs.Proof.{flags_of, flags_of_byte};
-ghost use Rattle.cf_proof.specs.Checks.{Answers, sized_fault, walk_fault, root_fault as fault_at_root, walk_of};
+ghost use Rattle.cf_proof.specs.Checks.{Answers, sized_fault, walk_fault, HasCounts, root_fault as fault_at_root, walk_of};
 
 use crate::fault::ProofFault;
 use crate::proof::Proof;
@@ -25,18 +25,23 @@ pub fn check_proof(alloc: Global, bytes: &[u8], tx: &Tx) -> Result<Hash32, Refus
         Err(e) => return Err(e),
     };
     let size = size_of(alloc, tx)?;
-    let bits = bits_of(alloc, proof.flags.as_slice())?;
-    match parts_fault(&proof, size, &bits, &txid(tx)) {
+    match counts_fault(&proof, size) {
+        Some(fault) => return Err(Refused::No(fault)),
+        None => {}
+    }
+    let bits = bits_of(alloc, &proof)?;
+    match walked_fault(&proof, &bits, &txid(tx)) {
         Some(fault) => Err(Refused::No(fault)),
         None => Ok(block_hash(&proof.header)),
     }
 }
 
-// The first fault of a proof for a transaction of this size and hash. Its bits are given.
-fn parts_fault(proof: &Proof, size: usize, bits: &[bool], txid: &Hash32) -> Option<ProofFault>
-    requires bits { bits.now ≡ flags_of proof.now.flags }
-    requires count { length bits.now ≡ 8 * length proof.now.flags }
-    ensures { result ≡ sized_fault proof.now size txid.now.0 }
+// The first fault of a proof's counts, for a transaction of this size.
+fn counts_fault(proof: &Proof, size: usize) -> Option<ProofFault>
+    ensures fault { IfSome result (λ f. (txid : List ℕ) → sized_fault proof.now size txid ≡ Some f) }
+    ensures counts { result ≡ None → HasCounts proof.now }
+    ensures rest { result ≡ None → (txid : List ℕ)
+        → sized_fault proof.now size txid ≡ walk_fault proof.now.header.root.0 txid (walk_of proof.now) }
 {
     if proof.total == 0 || proof.total > 16_666 {
         return Some(ProofFault::Total);
@@ -47,10 +52,10 @@ fn parts_fault(proof: &Proof, size: usize, bits: &[bool], txid: &Hash32) -> Opti
     if size == 64 {
         return Some(ProofFault::Tx64);
     }
-    if bits.len() < proof.hashes.len() {
+    if proof.flags.len().saturating_mul(8) < proof.hashes.len() {
         return Some(ProofFault::Bits);
     }
-    walked_fault(proof, bits, txid)
+    None
 }
 
 // The first fault of the walk.
@@ -96,13 +101,13 @@ fn size_of(alloc: Global, tx: &Tx) -> Result<usize, NoMemory>
     Ok(bytes.len())
 }
 
-// The bits of bytes.
-fn bits_of(alloc: Global, flags: &[u8]) -> Result<Vec<bool>, NoMemory>
-    ensures bits { IfOk result (λ v. v.items ≡ flags_of flags.now) }
-    ensures count { IfOk result (λ v. length v.items ≡ 8 * length flags.now) }
+// The bits of a proof whose counts were judged.
+fn bits_of(alloc: Global, proof: &Proof) -> Result<Vec<bool>, NoMemory>
+    requires { HasCounts proof.now }
+    ensures { IfOk result (λ v. v.items ≡ flags_of proof.now.flags) }
 {
     let mut bits = Vec::new(alloc);
-    for byte in flags {
+    for byte in proof.flags.as_slice() {
         put_bits(&mut bits, *byte)?;
     }
     Ok(bits)

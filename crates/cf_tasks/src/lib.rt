@@ -19,5 +19,5 @@ pub use platform::{Flag, Platform};
 pub use rule::InOrder;
 pub use stream::{read_some, write_some};
 pub use task::Task;
-pub use threads::{Choice, InThreads, Running, Spawner, joined, run_here};
+pub use threads::{Choice, InThreads, Running, Spawner, joined};
 pub use workers::{Answer, Busy, Waited, Waiter, Workers};

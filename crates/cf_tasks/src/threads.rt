@@ -63,7 +63,7 @@ enum Way<J: Task> {
     Here(Ran<J>),
 }
 
-/// A task that runs in a thread, or was run in place. Contracts see it as the task.
+/// A task that runs in a thread, or was run in place: a spawner was told to start it. Contracts see it as the task.
 #[derive(Drop)]
 pub struct Running<J: Task> {
     way: Way<J>,
@@ -292,8 +292,8 @@ impl<R: Platform + Drop> Spawner for InThreads<R> {
     }
 }
 
-/// Runs a task in place. Its answer is then joined as any other.
-pub fn run_here<J: Task>(task: J) -> Running<J>
+// Runs a task in place. Its answer is then joined as any other.
+fn run_here<J: Task>(task: J) -> Running<J>
     ensures { result ≡ task }
 {
     let of = Snapshot::of(&task);

@@ -32,8 +32,11 @@ fn loaded(
 {
     let mut source = SliceSource::new(alloc, bytes, most);
     source.failing(&[failing]).ok().ok_or("no memory")?;
-    match Index::load(rt, alloc, &mut source) {
-        Ok(index) => Ok(format!(in alloc; "tip {}", index.tip())?),
+    match read_source(alloc, &mut source) {
+        Ok(chain) => {
+            let index = Index::of(rt, alloc, chain)?;
+            Ok(format!(in alloc; "tip {}", index.tip())?)
+        }
         Err(fault) => Ok(format!(in alloc; "{fault}")?),
     }
 }

@@ -1,7 +1,7 @@
-use Rattle.std.proofs.Common.{List, ◌∷◌, ◌++◌, [], sym, ap, ◌∙◌, subst}
+use Rattle.std.proofs.Common.{List, ◌∷◌, ◌++◌, [], Option, sym, ap, ◌∙◌, subst}
 use Rattle.std.specs.FinMap.{empty}
 use Rattle.cf_block.specs.declared.tx.Block.{Block}
-use Rattle.cf_chain.specs.Coins.{coins_after}
+use Rattle.cf_chain.specs.Coins.{CoinMap, coins_after}
 use Rattle.cf_chain.specs.Good.{IsGoodChain, headers_of}
 use Rattle.cf_headers.specs.Rules.{past_after}
 use Rattle.cf_headers.specs.Chain.{tip_hash, past_of}
@@ -55,9 +55,9 @@ invariant_of-self-2 c =
     c.in-Ok-spend_block.ensures.after in (
       all.0,
       record {
-        timed = c.push.ensures ∙ ap (past_after block.header.time) c.self.invariant.1.timed
+        timed = c.go_on.ensures.times ∙ ap (past_after block.header.time) c.self.invariant.1.timed
             ∙ sym (ap past_of (ap headers_of put ∙ headers_more blocks block) ∙ past_more block.header (headers_of blocks));
-        found = all.1;
+        found = subst (λ (kept : Option CoinMap). AreTheirs kept c.put_all.new.blocks) (sym c.go_on.ensures.coins) all.1;
       },
     )
 
