@@ -62,6 +62,10 @@ fn run_command<R: Wait + Threads + Sync + Copy + Drop + Send + 'static, K: Spawn
         mut tape,
         mut played,
     } = edge;
+    let mut listener = match Listener::ready(teller, words) {
+        Ok(listener) => listener,
+        Err(status) => return told(teller, words, status, &None),
+    };
     tell_changes(&mut network, dials.stays);
     let mut files = StdFiles::new(&rt);
     let mut ends = Vec::new(alloc);
@@ -76,7 +80,7 @@ fn run_command<R: Wait + Threads + Sync + Copy + Drop + Send + 'static, K: Spawn
         &mut network,
         &mut tape,
         &mut played,
-        &mut Listener::new(teller),
+        &mut listener,
         spawner,
         &mut WriterSink::new(io::writer(&rt)),
         &mut ends,

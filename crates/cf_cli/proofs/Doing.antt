@@ -112,6 +112,6 @@ undone (Check file) moment nonce a wires tape log = record {
   told = under a.files file (λ b. no_check a.written (proof_file_of b));
   takes = under a.files file {P = λ b. TakesWhatIsProved NoMemory b a.written a.written} (λ b txid blocks good made. refl);
 }
-undone (Serve grow count file address) moment nonce a wires tape log = (inl refl, refl)
+undone (Serve grow count at_once budget file address) moment nonce a wires tape log = (inl refl, refl)
 undone (Make witness seed blocks file) moment nonce a wires tape log = (refl, refl)
 undone (Demo seed blocks) moment nonce a wires tape log = refl

@@ -368,6 +368,7 @@ where
             connections,
             file,
             address,
+            ..
         } => serve(
             rt,
             alloc,
