@@ -359,7 +359,7 @@ impl Door {
     }
 
     // Gives a seat to one that waits. Where no memory is found it waits on.
-    fn seat<R: Clock + Copy>(&mut self, rt: &R, i: usize) -> Option<Paced<R>> {
+    fn seat<R: Clock + Copy + Drop>(&mut self, rt: &R, i: usize) -> Option<Paced<R>> {
         if i >= self.waiting.len() || self.seats.reserve(1).is_err() {
             return None;
         }
@@ -384,7 +384,7 @@ impl Door {
     }
 
     // The next connection, where there are a seat and one that waits.
-    fn seat_next<R: Clock + Copy>(&mut self, rt: &R) -> Option<Paced<R>> {
+    fn seat_next<R: Clock + Copy + Drop>(&mut self, rt: &R) -> Option<Paced<R>> {
         if self.seats.len() >= self.at_once {
             return None;
         }
@@ -397,7 +397,7 @@ impl Door {
     /// # Errors
     ///
     /// Where nothing listens, and where the system gives no connection any more.
-    pub(crate) fn next<R: Clock + Eprint + Copy>(&mut self, rt: &R) -> io::Result<Paced<R>> {
+    pub(crate) fn next<R: Clock + Eprint + Copy + Drop>(&mut self, rt: &R) -> io::Result<Paced<R>> {
         for _ in 0..u64::MAX {
             if self.waiting.is_empty() {
                 self.wait(rt)?;

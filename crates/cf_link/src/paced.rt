@@ -98,7 +98,7 @@ pub(crate) struct Paced<R> {
     patience: u64,
 }
 
-impl<R: Clock> Paced<R> {
+impl<R: Clock + Drop> Paced<R> {
     /// A connection that was accepted now.
     pub(crate) fn new(rt: R, pass: Arc<Pass, Global>, budget: Arc<Budget, Global>) -> Paced<R> {
         let now = millis(&rt);
@@ -278,9 +278,14 @@ impl<R: Clock> Paced<R> {
 
     /// Closes the connection at once, whoever else has a share of it, and holds nothing any more.
     pub(crate) fn close(self) {
-        let mut all = self;
-        all.let_go();
+        let Paced {
+            pass,
+            budget,
+            held,
+            ..
+        } = self;
+        budget.give_back(held);
         // Where the peer has gone already there is nothing to shut.
-        let _shut = all.pass.stream().shutdown(Shutdown::Both);
+        let _shut = pass.stream().shutdown(Shutdown::Both);
     }
 }

@@ -35,7 +35,7 @@ pub struct TcpEnd {
     writes: u64,
 }
 
-impl<R: Clock> Source for TcpConn<R> {
+impl<R: Clock + Drop> Source for TcpConn<R> {
     ghost left = { λ _. None };
 
     ghost ended = { λ c. c.ended };
@@ -47,7 +47,7 @@ impl<R: Clock> Source for TcpConn<R> {
     }
 }
 
-impl<R: Clock> Sink for TcpConn<R> {
+impl<R: Clock + Drop> Sink for TcpConn<R> {
     ghost written = { λ _. None };
 
     ghost faults = { λ c. c.writes };
@@ -59,7 +59,7 @@ impl<R: Clock> Sink for TcpConn<R> {
     }
 }
 
-impl<R: Clock> Duplex for TcpConn<R> {
+impl<R: Clock + Drop> Duplex for TcpConn<R> {
     type End = TcpEnd;
 
     ghost tells = { λ e. record {
