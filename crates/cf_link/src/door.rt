@@ -15,8 +15,11 @@ pub const MOST_WAITING: usize = 256;
 /// A connection is cut for another one only where it was there for so long without a `version`, in milliseconds.
 pub const VERSION_GRACE: u64 = 1000;
 
-/// Or where it has left an answer unread for so long, in milliseconds.
-pub const UNREAD_GRACE: u64 = 10_000;
+/// Or where it has left a message or an answer where it is for so long, in milliseconds.
+pub const WITHIN_GRACE: u64 = 5000;
+
+/// Or where nothing has come and nothing was taken for so long, in milliseconds.
+pub const IDLE_GRACE: u64 = 60_000;
 
 // The share of the seats that one address has while others wait.
 const SHARE: usize = 4;
@@ -108,10 +111,11 @@ fn silent_since(seat: &Seat, now: u64) -> Option<u64> {
     None
 }
 
-// Since when a seat leaves an answer unread, where that is for long enough.
-fn unread_since(seat: &Seat, now: u64) -> Option<u64> {
-    let since = seat.pass.unread_since();
-    if since > 0 && now.saturating_sub(since) >= UNREAD_GRACE {
+// Since when a seat is idle, where that is for long enough: less of it is where a message or an answer is under way.
+fn idle_since(seat: &Seat, within: bool, now: u64) -> Option<u64> {
+    let grace = if within { WITHIN_GRACE } else { IDLE_GRACE };
+    let since = seat.pass.moved();
+    if (seat.pass.is_within() || !within) && now.saturating_sub(since) >= grace {
         return Some(since);
     }
     None
@@ -135,12 +139,12 @@ fn silent_one(seats: &[Seat], address: IpAddr, has_share: bool, now: u64) -> Opt
     found
 }
 
-// The seat that leaves an answer unread for longest.
-fn unread_one(seats: &[Seat], now: u64) -> Option<usize> {
+// The seat that is idle for longest: of those within a message or an answer, or of all.
+fn idle_one(seats: &[Seat], within: bool, now: u64) -> Option<usize> {
     let mut found = None;
     let mut oldest = u64::MAX;
     for (i, seat) in seats.iter().enumerate() {
-        if let Some(since) = unread_since(seat, now) {
+        if let Some(since) = idle_since(seat, within, now) {
             if since < oldest {
                 oldest = since;
                 found = Some(i);
@@ -323,8 +327,8 @@ impl Door {
     }
 
     // The seat that is given up for a connection from this address, if one is: without a `version`, else one that
-    // leaves its answer unread, else one of an address that has more than its share. Where the address itself has its
-    // share, that is one of its own without a `version`.
+    // leaves a message or an answer where it is, else an idle one, else one of an address that has more than its share.
+    // Where the address itself has its share, that is one of its own without a `version`.
     fn to_give_up(&self, address: IpAddr, now: u64) -> Option<usize> {
         let share = share_of(self.at_once);
         let has_share = seats_of(&self.seats, address) >= share;
@@ -332,9 +336,13 @@ impl Door {
         if silent.is_some() || has_share {
             return silent;
         }
-        let unread = unread_one(&self.seats, now);
-        if unread.is_some() {
-            return unread;
+        let within = idle_one(&self.seats, true, now);
+        if within.is_some() {
+            return within;
+        }
+        let idle = idle_one(&self.seats, false, now);
+        if idle.is_some() {
+            return idle;
         }
         surplus_one(&self.seats, share)
     }
@@ -364,14 +372,15 @@ impl Door {
             return None;
         }
         let budget = Arc::try_clone(&self.budget).ok()?;
+        let now = millis(rt);
         let Waiting { stream, address } = self.waiting.remove(i);
-        match Arc::new(self.alloc, Pass::new(stream)) {
+        match Arc::new(self.alloc, Pass::new(stream, now)) {
             Ok(pass) => {
                 let theirs = Arc::try_clone(&pass).ok()?;
                 let _kept = self.seats.push(Seat {
                     pass,
                     address,
-                    since: millis(rt),
+                    since: now,
                 });
                 Some(Paced::new(*rt, theirs, budget))
             }

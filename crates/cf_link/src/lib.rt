@@ -14,7 +14,7 @@ mod serving;
 mod task;
 mod tcp;
 
-pub use door::{MOST_WAITING, UNREAD_GRACE, VERSION_GRACE};
+pub use door::{IDLE_GRACE, MOST_WAITING, VERSION_GRACE, WITHIN_GRACE};
 pub use in_memory::ListLink;
 pub use limits::Limits;
 pub use link::Link;

@@ -120,7 +120,7 @@ impl<R: Clock + Drop> Paced<R> {
     // The last answer is over, and with it what was held for a message that has come as a whole.
     fn end_answer(&mut self) {
         self.answer = None;
-        self.pass.leave_unread(0);
+        self.pass.set_within(false);
         if self.meter.is_between() || self.meter.begun() > self.held_for {
             self.let_go();
         }
@@ -193,16 +193,19 @@ impl<R: Clock + Drop> Paced<R> {
         if self.is_uncounted() {
             self.count()?;
         }
+        self.pass.set_within(!self.meter.is_between());
         let now = millis(&self.rt);
         self.set_patience(now)
     }
 
     // Takes note of what has come.
     fn note(&mut self, bytes: &[u8]) {
+        let now = millis(&self.rt);
+        self.pass.set_moved(now);
         let begun = self.meter.begun();
         self.meter.add(bytes);
         if self.meter.begun() > begun {
-            self.began = millis(&self.rt);
+            self.began = now;
             self.length = 0;
         }
         self.length = self.length.max(self.meter.left());
@@ -245,7 +248,8 @@ impl<R: Clock + Drop> Paced<R> {
             began: answer.began,
             taken: answer.taken.saturating_add(bytes),
         });
-        self.pass.leave_unread(0);
+        self.pass.set_moved(millis(&self.rt));
+        self.pass.set_within(false);
         self.pass.greet();
     }
 
@@ -259,7 +263,7 @@ impl<R: Clock + Drop> Paced<R> {
     {
         let since = millis(&self.rt);
         let answer = self.answer_at(since);
-        self.pass.leave_unread(since.max(1));
+        self.pass.set_within(true);
         for _ in 0..u64::MAX {
             if answer.is_late(since, millis(&self.rt)) {
                 break;

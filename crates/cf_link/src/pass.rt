@@ -17,19 +17,21 @@ pub(crate) struct Pass {
     stream: TcpStream,
     // Whether something was written to it: the peer has told its version then.
     greeted: AtomicBool,
-    // Since when what is written to it is left unread, or 0.
-    unread: AtomicU64,
+    // Whether a message or an answer is under way, and when something has come or was taken last.
+    within: AtomicBool,
+    moved: AtomicU64,
     // Whether the listener has cut it.
     cut: AtomicBool,
 }
 
 impl Pass {
-    /// Nothing has passed the stream.
-    pub(crate) fn new(stream: TcpStream) -> Pass {
+    /// Nothing has passed the stream, up to now.
+    pub(crate) fn new(stream: TcpStream, now: u64) -> Pass {
         Pass {
             stream,
             greeted: AtomicBool::new(false),
-            unread: AtomicU64::new(0),
+            within: AtomicBool::new(false),
+            moved: AtomicU64::new(now),
             cut: AtomicBool::new(false),
         }
     }
@@ -55,14 +57,24 @@ impl Pass {
         self.greeted.store(true, Ordering::SeqCst);
     }
 
-    /// Since when what is written to it is left unread, or 0 where nothing is.
-    pub(crate) fn unread_since(&self) -> u64 {
-        self.unread.load(Ordering::SeqCst)
+    /// Whether a message or an answer is under way.
+    pub(crate) fn is_within(&self) -> bool {
+        self.within.load(Ordering::SeqCst)
     }
 
-    /// What is written to it is left unread since then, or nothing is where this is 0.
-    pub(crate) fn leave_unread(&self, since: u64) {
-        self.unread.store(since, Ordering::SeqCst);
+    /// Says whether a message or an answer is under way.
+    pub(crate) fn set_within(&self, within: bool) {
+        self.within.store(within, Ordering::SeqCst);
+    }
+
+    /// When something has come or was taken last.
+    pub(crate) fn moved(&self) -> u64 {
+        self.moved.load(Ordering::SeqCst)
+    }
+
+    /// Something has come or was taken now.
+    pub(crate) fn set_moved(&self, now: u64) {
+        self.moved.store(now, Ordering::SeqCst);
     }
 
     /// Whether the listener has cut it.
