@@ -109,10 +109,11 @@ impl<R: Clock + Drop> Duplex for TcpConn<R> {
     }
 }
 
-/// A listener over TCP. It tells neither addresses nor bytes. It serves so many connections at a time as its limits say;
-/// the next ones wait, or one is cut for them that has told no `version` for a second, that has left a message or an
-/// answer where it is for five, that is idle for a minute, or whose address has more than a quarter of all. Where the system has no memory or no descriptor for the
-/// next connection, it waits, and tells that on standard error, at most once a minute.
+/// A listener over TCP. It tells neither addresses nor bytes. It serves so many connections at a time as its limits
+/// say; the next ones wait, or one is cut for them that has told no `version` for a second, that has left a message or
+/// an answer where it is for five, that is idle for a minute, or whose address has more than a quarter of all. Where the
+/// system has no memory or no descriptor for the next connection, it waits, and tells that on standard error, at most
+/// once a minute.
 #[derive(Drop)]
 pub struct TcpLink<R> {
     rt: R,
