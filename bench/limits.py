@@ -25,8 +25,8 @@ import tempfile
 import threading
 import time
 
-from conversation import MAGIC, THEIR_VERSION, compact, double, frame
-from network import BENCH, ROOT, Run, comes
+from conversation import THEIR_VERSION, compact, frame
+from network import ROOT, Run, comes
 
 WORST, SOURCES, MEMORY, FACTOR = 1000, 8, 400 << 20, 2
 # The blocks of the chain that is served, and how long the worst ones are there before the `sync` comes, in seconds.

@@ -54,6 +54,10 @@ fn run_command<R: Wait + Threads + Sync + Copy + Drop + Send + 'static, K: Spawn
     let Ok(dials) = read_dials(alloc, words) else {
         return told(teller, words, Status::NoMemory, &None);
     };
+    let mut listener = match Listener::ready(teller, words) {
+        Ok(listener) => listener,
+        Err(status) => return told(teller, words, status, &None),
+    };
     let Ok(edge) = Edge::new(teller, handle, spawner, dials.peers) else {
         return told(teller, words, Status::NoMemory, &None);
     };
@@ -62,10 +66,6 @@ fn run_command<R: Wait + Threads + Sync + Copy + Drop + Send + 'static, K: Spawn
         mut tape,
         mut played,
     } = edge;
-    let mut listener = match Listener::ready(teller, words) {
-        Ok(listener) => listener,
-        Err(status) => return told(teller, words, status, &None),
-    };
     tell_changes(&mut network, dials.stays);
     let mut files = StdFiles::new(&rt);
     let mut ends = Vec::new(alloc);
