@@ -621,7 +621,8 @@ fn serve_with(
     budget: u32,
     matches: &ArgMatches,
 ) -> Result<Command, Refused<Usage>>
-    ensures { GivesOrUsage (serve_with connections at_once budget (subcommand_rows_of matches.now)) result }
+    ensures exact { GivesOrUsage (serve_with connections at_once budget (subcommand_rows_of matches.now)) result }
+    ensures few { IfOk result HasFewPeers }
 {
     let file = text_of(matches, "file").ok_or(Usage)?;
     let address = text_of(matches, "address").ok_or(Usage)?;
@@ -642,7 +643,8 @@ fn serve_with(
 }
 
 fn read_serve(alloc: Global, matches: &ArgMatches) -> Result<Command, Refused<Usage>>
-    ensures { GivesOrUsage (serve_of (subcommand_rows_of matches.now)) result }
+    ensures exact { GivesOrUsage (serve_of (subcommand_rows_of matches.now)) result }
+    ensures few { IfOk result HasFewPeers }
 {
     let endless = is_set(matches, "endless");
     let connections = count_of(endless, text_of(matches, "connections")).ok_or(Usage)?;
