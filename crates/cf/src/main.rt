@@ -54,6 +54,10 @@ fn run_command<R: Wait + Threads + Sync + Copy + Drop + Send + 'static, K: Spawn
     let Ok(dials) = read_dials(alloc, words) else {
         return told(teller, words, Status::NoMemory, &None);
     };
+    let mut listener = match Listener::ready(teller, words) {
+        Ok(listener) => listener,
+        Err(status) => return told(teller, words, status, &None),
+    };
     let Ok(edge) = Edge::new(teller, handle, spawner, dials.peers) else {
         return told(teller, words, Status::NoMemory, &None);
     };
@@ -76,7 +80,7 @@ fn run_command<R: Wait + Threads + Sync + Copy + Drop + Send + 'static, K: Spawn
         &mut network,
         &mut tape,
         &mut played,
-        &mut Listener::new(teller),
+        &mut listener,
         spawner,
         &mut WriterSink::new(io::writer(&rt)),
         &mut ends,

@@ -23,7 +23,8 @@ usage: cf scan FILE WATCH
        cf replay [--follow] [--trace] WATCH SESSION
        cf sync [--turns N] [--workers N] [--record FILE] WATCH PEER..
        cf follow [--turns N] [--workers N] [--record FILE] WATCH PEER..
-       cf serve [--grow] [--connections N] FILE ADDRESS
+       cf serve [--grow] [--endless | --connections N] [--at-once N] [--budget N]
+                FILE ADDRESS
        cf address TEXT
        cf prove FILE TXID
        cf check [--witness] FILE [BLOCKS]
@@ -57,6 +58,9 @@ usage: cf scan FILE WATCH
              peer was closed, as `x P CAUSE`
   --grow     takes the blocks that the connections bring, and tells of them;
              FILE stays as it is
+  --endless  serves without an end by the number of connections
+  --at-once  serves N connections at a time, from 1 to 1000000 (else 125)
+  --budget   holds N megabytes of large messages, from 1 to 1000000 (else 256)
   --turns    takes at most N deliveries, from 1 to 10000000 (else 10000000)
   --workers  judges filters in N threads, from 1 to 64 (else 4)
   --record   writes the dials and what came from the peers to FILE, as the

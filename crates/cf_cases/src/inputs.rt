@@ -97,11 +97,13 @@ fn told(alloc: Global, command: &Command) -> Option<String> {
         Command::Serve {
             grow,
             connections,
+            at_once,
+            budget,
             file,
             address,
         } => {
             format!(in alloc;
-                "serve {grow} {connections} {} {}",
+                "serve {grow} {connections} {at_once} {budget} {} {}",
                 file.as_str(),
                 address.as_str()
             )

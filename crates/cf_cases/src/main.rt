@@ -34,6 +34,7 @@ fn answer<R: Host>(rt: R, alloc: Global, row: &str) -> Option<String> {
     let (kind, rest) = row.split_once(' ')?;
     match kind {
         "address" => addresses::answer(alloc, rest),
+        "announced" => servings::announced(rt, alloc, rest),
         "bare" => files::bare(&rt, alloc, rest),
         "block" => blocks::block(alloc, rest),
         "blocks" => files::answer(&rt, alloc, rest),

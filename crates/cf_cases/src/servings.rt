@@ -3,10 +3,10 @@ ghost use Rattle.std.specs.Prelude.{◌≡◌, All, Some, [], IfSome, false};
 
 use crate::conversations::{MOMENT, NONCE, conn_in};
 use crate::fields::{bytes_in, digits_of, numbers_in, texts_in};
-use cf_bytes::{Files, MapFiles};
+use cf_bytes::{Files, MapFiles, show};
 use cf_conn::{MemoryConn, MemoryEnd};
 use cf_link::ListLink;
-use cf_rows::{Host, Limited, answered};
+use cf_rows::{Host, Limited, answered, no_link};
 use cf_tasks::Choice;
 use cf_wires::MemoryWires;
 use std::alloc::Global;
@@ -128,6 +128,17 @@ fn called<R: Host>(
     let mut link = link_in(alloc, failing, asked)?;
     let text = answered_by(rt, alloc, way, words, blocks, unread, &mut link)?;
     shown(alloc, text.as_str(), link.given())
+}
+
+/// The height and the hash that a call announces before it finds that nobody connects.
+pub(crate) fn announced<R: Host>(rt: R, alloc: Global, row: &str) -> Option<String> {
+    let (words, blocks) = row.split_once('|')?;
+    let mut link = no_link(alloc)?;
+    answered_by(rt, alloc, "place", words, blocks, "-", &mut link)?;
+    match link.announced() {
+        Some((height, tip)) => format!(in alloc; "{height} {}", show(alloc, &tip).ok()?).ok(),
+        None => String::from_str(alloc, "none").ok(),
+    }
 }
 
 /// How the call of a row ends, and how each of its connections did.

@@ -137,6 +137,6 @@ undone (Check witness file chain) moment nonce a wires tape log = record {
   told = unchecked a.files file chain a.written witness;
   takes = under a.files file {P = λ b. TakesAlone NoMemory witness b chain a.written a.written} (λ b. untaken a.written b witness chain);
 }
-undone (Serve grow count file address) moment nonce a wires tape log = (inl refl, refl)
+undone (Serve grow count at_once budget file address) moment nonce a wires tape log = (inl refl, refl)
 undone (Make witness seed blocks file) moment nonce a wires tape log = (refl, refl)
 undone (Demo seed blocks) moment nonce a wires tape log = refl

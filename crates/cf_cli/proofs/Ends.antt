@@ -84,7 +84,7 @@ ends_untold (Some (Filter file height)) status files wires tape ends not = refl
 ends_untold (Some (Address text)) status files wires tape ends not = refl
 ends_untold (Some (Prove file txid)) status files wires tape ends not = refl
 ends_untold (Some (Check witness file chain)) status files wires tape ends not = refl
-ends_untold (Some (Serve grow count file address)) status files wires tape ends not = refl
+ends_untold (Some (Serve grow count at_once budget file address)) status files wires tape ends not = refl
 ends_untold (Some (Make witness seed blocks file)) status files wires tape ends not = refl
 ends_untold (Some (Demo seed blocks)) status files wires tape ends not = refl
 

@@ -16,7 +16,7 @@ files_read (Filter file height) = ByParts file ∷ []
 files_read (Address text) = []
 files_read (Prove file txid) = ByParts file ∷ []
 files_read (Check witness file chain) = files_checked file chain
-files_read (Serve grow count file address) = ByParts file ∷ []
+files_read (Serve grow count at_once budget file address) = ByParts file ∷ []
 files_read (Make witness seed blocks file) = []
 files_read (Demo seed blocks) = []
 

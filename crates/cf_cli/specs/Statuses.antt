@@ -21,7 +21,7 @@ verdict_of files (Filter file height) = blocks_verdict (finite.get files file)
 verdict_of files (Address text) = no_file
 verdict_of files (Prove file txid) = blocks_verdict (finite.get files file)
 verdict_of files (Check witness file chain) = check_verdict files witness file chain
-verdict_of files (Serve grow count file address) = blocks_verdict (finite.get files file)
+verdict_of files (Serve grow count at_once budget file address) = blocks_verdict (finite.get files file)
 verdict_of files (Make witness seed blocks file) = no_file
 verdict_of files (Demo seed blocks) = no_file
 

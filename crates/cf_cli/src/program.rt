@@ -378,6 +378,7 @@ where
             connections,
             file,
             address,
+            ..
         } => serve(
             rt,
             alloc,

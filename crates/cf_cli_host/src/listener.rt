@@ -1,10 +1,31 @@
 //! The listener of `serve`, which tells the user what it does.
 ghost use Rattle.std.specs.Prelude.{◌≡◌, ◌-◌, None};
 
-use cf_bytes::{Failed, Hash32, show};
-use cf_link::{Link, TcpConn, TcpEnd, TcpLink};
+use cf_answers::Status;
+use cf_bytes::{Failed, Hash32, NoMemory, Refused, show};
+use cf_input::{Command, read_words};
+use cf_link::{Limits, Link, TcpConn, TcpEnd, TcpLink};
+use cf_outside::is_host_and_port;
 use cf_tell::Teller;
-use std::io;
+use std::io::{self, ErrorKind};
+
+// So many bytes are a megabyte.
+const MEGABYTE: u64 = 1_048_576;
+
+// The limits that a command says, and those that are usual where it serves nobody.
+fn limits_of(command: &Command) -> Limits {
+    match command {
+        Command::Serve {
+            at_once,
+            budget,
+            ..
+        } => Limits {
+            at_once: *at_once,
+            bytes: u64::from(*budget).saturating_mul(MEGABYTE),
+        },
+        _ => Limits::usual(),
+    }
+}
 
 /// A listener over TCP. It tells on standard error where it listens, which chain is served, and how each connection
 /// ended, in the order in which they were accepted: of one that is over, once the next one comes or none is accepted
@@ -17,13 +38,61 @@ pub struct Listener {
 }
 
 impl Listener {
-    /// A listener that doesn't listen yet.
-    pub fn new(teller: &'static Teller) -> Listener {
-        Listener {
+    /// A listener that doesn't listen yet, with these limits.
+    ///
+    /// # Errors
+    ///
+    /// Where no memory is found.
+    pub fn new(teller: &'static Teller, limits: Limits) -> Result<Listener, NoMemory> {
+        Ok(Listener {
             teller,
-            link: TcpLink::new(teller),
+            link: TcpLink::new(teller, teller.runtime().alloc(), limits)?,
             told: 0,
+        })
+    }
+
+    /// The listener for the words of a call, which has taken the address of `serve` already: connections wait there
+    /// until the chain is loaded. Where the words ask for something else, or for nothing, it takes none.
+    ///
+    /// # Errors
+    ///
+    /// `LinkFault` where the address can't be taken, which is told then; and `NoMemory`.
+    pub fn ready(teller: &'static Teller, words: &[String]) -> Result<Listener, Status> {
+        match read_words(teller.runtime().alloc(), words) {
+            Ok(command) => Listener::ready_for(teller, &command),
+            Err(Refused::No(_)) => {
+                Listener::new(teller, Limits::usual()).map_err(|_| Status::NoMemory)
+            }
+            Err(Refused::NoMemory) => Err(Status::NoMemory),
         }
+    }
+
+    // The same for a command.
+    fn ready_for(teller: &'static Teller, command: &Command) -> Result<Listener, Status> {
+        let mut listener = Listener::new(teller, limits_of(command)).map_err(|_| Status::NoMemory)?;
+        if let Command::Serve { address, .. } = command {
+            listener.take(address.as_str())?;
+        }
+        Ok(listener)
+    }
+
+    // Takes an address, which has the form that a peer's has.
+    fn take(&mut self, address: &str) -> Result<(), Status> {
+        match self.prepare(address) {
+            Ok(()) => Ok(()),
+            Err(reason) => {
+                let _told = eprintln!(self.teller; "cf: {address}: {reason}");
+                Err(Status::LinkFault)
+            }
+        }
+    }
+
+    // The same, and tells nothing.
+    fn prepare(&mut self, address: &str) -> io::Result<()> {
+        if !is_host_and_port(address) {
+            return Err(io::Error::new(ErrorKind::InvalidInput, "it is not HOST:PORT"));
+        }
+        self.link.prepare(address)
     }
 
     // Tells where it listens.
@@ -71,7 +140,7 @@ fn way(how: u8) -> &'static str {
 }
 
 impl Link for Listener {
-    type Conn = TcpConn;
+    type Conn = TcpConn<&'static Teller>;
 
     ghost faults = { λ l. l.link.faults };
 
@@ -98,7 +167,7 @@ impl Link for Listener {
         let _told = self.tell_tip(height, tip);
     }
 
-    fn accept(&mut self) -> Result<TcpConn, Failed> {
+    fn accept(&mut self) -> Result<TcpConn<&'static Teller>, Failed> {
         let answer = self.link.accept();
         if answer.is_err() {
             let _told = self.tell_reason("the next connection");

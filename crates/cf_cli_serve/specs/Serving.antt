@@ -67,5 +67,5 @@ answer_of (Err OutOfMemory) = NoMemory
 
 -- whether a command that was answered so may have used the link that was handed in: `serve` alone does
 abbrev pub may_serve : Option Command → Status → Bool
-may_serve (Some (Serve grow count file address)) status = not (was_refused status)
+may_serve (Some (Serve grow count at_once budget file address)) status = not (was_refused status)
 may_serve command status = false

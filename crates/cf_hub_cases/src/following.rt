@@ -21,7 +21,7 @@ fn followed<R: Wait + Threads + Sync + Copy + Drop + Send + 'static, K: Spawner>
     spawner: &mut K,
 ) -> Option<String> {
     let alloc = rt.alloc();
-    let mut link = ToldLink::new(rt, count(alloc)?);
+    let mut link = ToldLink::new(rt, count(alloc)?).ok()?;
     let mut out = VecSink::new(alloc, 7, 1000).ok()?;
     let teller = Teller::kept(rt).ok()?;
     let Ok(edge) = Edge::new(teller, handle, spawner, MOST_PEERS) else {

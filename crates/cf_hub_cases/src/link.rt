@@ -3,8 +3,8 @@ ghost use Rattle.std.specs.Prelude.{◌≡◌, ◌-◌, None};
 
 use crate::doors::Count;
 use crate::port::tell;
-use cf_bytes::{Failed, Hash32};
-use cf_link::{Link, TcpConn, TcpEnd, TcpLink};
+use cf_bytes::{Failed, Hash32, NoMemory};
+use cf_link::{Limits, Link, TcpConn, TcpEnd, TcpLink};
 
 /// A listener over TCP, which tells its port once it listens.
 #[derive(Drop)]
@@ -15,11 +15,11 @@ pub(crate) struct ToldLink {
 
 impl ToldLink {
     /// A listener that doesn't listen yet.
-    pub(crate) fn new(rt: HostRuntime, port: Count) -> ToldLink {
-        ToldLink {
-            link: TcpLink::new(rt),
+    pub(crate) fn new(rt: HostRuntime, port: Count) -> Result<ToldLink, NoMemory> {
+        Ok(ToldLink {
+            link: TcpLink::new(rt, rt.alloc(), Limits::usual())?,
             port,
-        }
+        })
     }
 
     // Tells where it listens.
@@ -31,7 +31,7 @@ impl ToldLink {
 }
 
 impl Link for ToldLink {
-    type Conn = TcpConn;
+    type Conn = TcpConn<HostRuntime>;
 
     ghost faults = { λ l. l.link.faults };
 
@@ -57,7 +57,7 @@ impl Link for ToldLink {
         self.link.announce(height, tip);
     }
 
-    fn accept(&mut self) -> Result<TcpConn, Failed> {
+    fn accept(&mut self) -> Result<TcpConn<HostRuntime>, Failed> {
         self.link.accept()
     }
 

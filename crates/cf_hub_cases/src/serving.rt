@@ -39,6 +39,6 @@ pub(crate) fn serve<R: Host>(
     blocks: String,
     port: Count,
 ) -> Option<String> {
-    let mut link = ToldLink::new(rt, port);
+    let mut link = ToldLink::new(rt, port).ok()?;
     served(rt, handle, call.as_str(), blocks.as_str(), &mut link)
 }

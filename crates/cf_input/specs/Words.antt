@@ -82,12 +82,15 @@ prove_app = two_app (codes "prove") (codes "file") (codes "txid")
 abbrev pub check_app : App
 check_app = with_rule (with_rule (with_rule (new_app (codes "check")) (flag_rule (codes "witness"))) (needed (new_rule (codes "file")))) (new_rule (codes "blocks"))
 
--- serve [--grow] [--connections N] FILE ADDRESS
+-- `serve` with its options alone: serve [--grow] [--endless] [--connections N] [--at-once N] [--budget N]
+abbrev pub serve_options_app : App
+serve_options_app =
+    with_rule (with_rule (with_rule (with_rule (with_rule (new_app (codes "serve")) (flag_rule (codes "grow"))) (flag_rule (codes "endless")))
+    (option_rule (codes "connections"))) (option_rule (codes "at-once"))) (option_rule (codes "budget"))
+
+-- the same, and then FILE ADDRESS
 abbrev pub serve_app : App
-serve_app =
-    with_rule
-    (with_rule (with_rule (with_rule (new_app (codes "serve")) (flag_rule (codes "grow"))) (option_rule (codes "connections"))) (needed (new_rule (codes "file"))))
-    (needed (new_rule (codes "address")))
+serve_app = with_rule (with_rule serve_options_app (needed (new_rule (codes "file")))) (needed (new_rule (codes "address")))
 
 -- make [--witness] SEED BLOCKS FILE
 abbrev pub make_app : App
@@ -164,6 +167,34 @@ most_connections = 1000000
 abbrev pub connections_of : Option Text → Option ℕ
 connections_of None = Some most_connections
 connections_of (Some text) = number_within most_connections text
+
+-- no end by their number: the greatest count
+abbrev pub endless : ℕ
+endless = 18446744073709551615
+
+-- how many connections are served: with `--endless` there is no end, and no number may be given beside it
+abbrev pub count_of : Bool → Option Text → Option ℕ
+count_of true None = Some endless
+count_of true (Some text) = None
+count_of false text = connections_of text
+
+-- at most this many connections are served at a time
+abbrev pub most_at_once : ℕ
+most_at_once = 1000000
+
+-- a number from 1 to the most, and 125 where none is given
+abbrev pub at_once_of : Option Text → Option ℕ
+at_once_of None = Some 125
+at_once_of (Some text) = number_within most_at_once text
+
+-- at most this many megabytes of large messages are held at a time
+abbrev pub most_budget : ℕ
+most_budget = 1000000
+
+-- a number from 1 to the most, and 256 where none is given
+abbrev pub budget_of : Option Text → Option ℕ
+budget_of None = Some 256
+budget_of (Some text) = number_within most_budget text
 
 -- the greatest height that may be asked for
 abbrev pub most_height : ℕ
@@ -267,12 +298,19 @@ prove_of met =
 abbrev pub check_of : Met → Option Command
 check_of met = option_and_then (λ file. Some (Check (is_set (codes "witness") met) file (text_of (codes "blocks") met))) (text_of (codes "file") met)
 
--- an address has the form of a peer's name
+-- the command `serve`, by its numbers; an address has the form of a peer's name
+abbrev pub serve_with : ℕ → ℕ → ℕ → Met → Option Command
+serve_with count at_once budget met =
+    option_and_then (λ file. option_and_then (λ address.
+    if is_name address then Some (Serve (is_set (codes "grow") met) count at_once budget file address) else None)
+    (text_of (codes "address") met)) (text_of (codes "file") met)
+
+-- the same, by what was found for its arguments
 abbrev pub serve_of : Met → Option Command
 serve_of met =
-    option_and_then (λ count. option_and_then (λ file. option_and_then (λ address.
-    if is_name address then Some (Serve (is_set (codes "grow") met) count file address) else None)
-    (text_of (codes "address") met)) (text_of (codes "file") met)) (connections_of (text_of (codes "connections") met))
+    option_and_then (λ count. option_and_then (λ at_once. option_and_then (λ budget. serve_with count at_once budget met)
+    (budget_of (text_of (codes "budget") met))) (at_once_of (text_of (codes "at-once") met)))
+    (count_of (is_set (codes "endless") met) (text_of (codes "connections") met))
 
 -- the command `make`, by what was found for its arguments
 abbrev pub make_of : Met → Option Command

@@ -1,7 +1,8 @@
 //! What is wrong with words that ask for nothing, told to the user.
 use crate::words::{
-    MOST_CONNECTIONS, MOST_HEIGHT, MOST_MADE, MOST_PLAYED, MOST_SEED, MOST_TURNS, MOST_WORKERS,
-    cli_command, connections_of, is_met, seed_of, text_of, texts_of, turns_of, workers_of,
+    MOST_AT_ONCE, MOST_BUDGET, MOST_CONNECTIONS, MOST_HEIGHT, MOST_MADE, MOST_PLAYED, MOST_SEED,
+    MOST_TURNS, MOST_WORKERS, at_once_of, budget_of, cli_command, count_of, is_met, is_set,
+    seed_of, text_of, texts_of, turns_of, workers_of,
 };
 use cf_bytes::{MOST_PEERS, NoMemory};
 use clap::ArgMatches;
@@ -38,11 +39,25 @@ fn run_mistake(alloc: Global, matches: &ArgMatches) -> Result<String, NoMemory> 
     }
 }
 
+// What is wrong with a number of connections that counts for nothing.
+fn count_mistake(alloc: Global, matches: &ArgMatches) -> Result<String, NoMemory> {
+    if is_set(matches, "endless") {
+        return Ok(format!(in alloc; "--endless and --connections exclude each other")?);
+    }
+    ranged(alloc, "N of --connections", 1, MOST_CONNECTIONS)
+}
+
 // What is out of its range in the words of `serve`.
 fn serve_mistake(alloc: Global, matches: &ArgMatches) -> Result<String, NoMemory> {
-    match connections_of(text_of(matches, "connections")) {
-        None => ranged(alloc, "N of --connections", 1, MOST_CONNECTIONS),
-        Some(_) => unnamed(alloc, "ADDRESS"),
+    let endless = is_set(matches, "endless");
+    if count_of(endless, text_of(matches, "connections")).is_none() {
+        count_mistake(alloc, matches)
+    } else if at_once_of(text_of(matches, "at-once")).is_none() {
+        ranged(alloc, "N of --at-once", 1, MOST_AT_ONCE)
+    } else if budget_of(text_of(matches, "budget")).is_none() {
+        ranged(alloc, "N of --budget", 1, MOST_BUDGET)
+    } else {
+        unnamed(alloc, "ADDRESS")
     }
 }
 

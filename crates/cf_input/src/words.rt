@@ -3,7 +3,7 @@ ghost use Rattle.std.specs.Prelude.{◌≡◌, ◌==◌, IfOk, IfErr, [], map, f
 ghost use Rattle.std.specs.List.{list_any};
 ghost use Rattle.clap.specs.Words.{App, Rule, app_of, rule_of, new_rule, subcommand_of, subcommand_rows_of, fault_of, with_rule};
 ghost use Rattle.clap.specs.declared.builder.command.Command.TheViews.{out-Command as fields_of};
-ghost use Rattle.cf_input.specs.Words.{flag_rule, option_rule, several, needed, replay_app, options_app, peers_app, check_app, serve_app, one_app, two_app, make_app, with_sub, client_app, cli_app, text_of, texts_of, is_met, is_set, turns_of, workers_of, connections_of, height_of, seed_of, made_of, played_of, replay_of, over_peers, over_peers_of, scan_of, filter_of, address_of, hash_in, prove_of, check_of, serve_of, make_of, demo_of, HasFewPeers, asked_of, is_faultless, command_of, is_help_word, is_version_word};
+ghost use Rattle.cf_input.specs.Words.{flag_rule, option_rule, several, needed, replay_app, options_app, peers_app, check_app, serve_app, one_app, two_app, make_app, with_sub, client_app, cli_app, text_of, texts_of, is_met, is_set, turns_of, workers_of, connections_of, height_of, seed_of, made_of, played_of, replay_of, over_peers, over_peers_of, scan_of, filter_of, address_of, hash_in, prove_of, check_of, serve_of, make_of, demo_of, HasFewPeers, asked_of, is_faultless, command_of, is_help_word, is_version_word, serve_options_app, count_of, at_once_of, budget_of, serve_with};
 ghost use Rattle.cf_input.specs.Commands.{GivesOrUsage, IfUsage, refusal_of};
 
 use crate::number::{number_at_most, number_within};
@@ -31,6 +31,21 @@ pub const USUAL_WORKERS: u32 = 4;
 
 /// At most this many connections are served.
 pub const MOST_CONNECTIONS: u32 = 1_000_000;
+
+/// No end by the number of connections: a count that is never reached.
+pub const ENDLESS: u64 = u64::MAX;
+
+/// At most this many connections are served at a time.
+pub const MOST_AT_ONCE: u32 = 1_000_000;
+
+/// So many connections are served at a time where no number is given.
+pub const USUAL_AT_ONCE: u32 = 125;
+
+/// At most this many megabytes, of 1,048,576 bytes, of large messages are held at a time.
+pub const MOST_BUDGET: u32 = 1_000_000;
+
+/// So many megabytes of large messages are held at a time where no number is given.
+pub const USUAL_BUDGET: u32 = 256;
 
 /// The greatest height that may be asked for.
 pub const MOST_HEIGHT: u32 = 4_294_967_295;
@@ -98,9 +113,13 @@ pub enum Command {
         blocks: Option<Word>,
     },
     /// The chain of a block file, served to so many connections to an address: as it is, or grown by what they bring.
+    /// At most `at_once` of them are served at a time, and all together hold at most `budget` megabytes of large
+    /// messages.
     Serve {
         grow: bool,
-        connections: u32,
+        connections: u64,
+        at_once: u32,
+        budget: u32,
         file: Word,
         address: Word,
     },
@@ -233,14 +252,24 @@ fn check_command<'a>(alloc: Global) -> Result<clap::Command<'a>, AllocError>
     with_arg(command, further_arg(alloc, "blocks"))
 }
 
-fn serve_command<'a>(alloc: Global) -> Result<clap::Command<'a>, AllocError>
-    ensures app { IfOk result (λ c. app_of c ≡ serve_app) }
+// `serve` with its options alone.
+fn serve_options<'a>(alloc: Global) -> Result<clap::Command<'a>, AllocError>
+    ensures app { IfOk result (λ c. app_of c ≡ serve_options_app) }
     ensures globals { IfOk result (λ c. (fields_of c).has_globals ≡ false) }
 {
     let command = Ok(clap::Command::new(alloc, "serve"));
     let command = with_arg(command, flag_arg(alloc, "grow"));
+    let command = with_arg(command, flag_arg(alloc, "endless"));
     let command = with_arg(command, option_arg(alloc, "connections"));
-    let command = with_arg(command, word_arg(alloc, "file"));
+    let command = with_arg(command, option_arg(alloc, "at-once"));
+    with_arg(command, option_arg(alloc, "budget"))
+}
+
+fn serve_command<'a>(alloc: Global) -> Result<clap::Command<'a>, AllocError>
+    ensures app { IfOk result (λ c. app_of c ≡ serve_app) }
+    ensures globals { IfOk result (λ c. (fields_of c).has_globals ≡ false) }
+{
+    let command = with_arg(serve_options(alloc), word_arg(alloc, "file"));
     with_arg(command, word_arg(alloc, "address"))
 }
 
@@ -369,8 +398,8 @@ pub(crate) fn is_met(matches: &ArgMatches, name: &str) -> bool
     }
 }
 
-// Whether this flag was given.
-fn is_set(matches: &ArgMatches, id: &str) -> bool
+/// Whether this flag was given.
+pub(crate) fn is_set(matches: &ArgMatches, id: &str) -> bool
     ensures { result ≡ is_set id.now (subcommand_rows_of matches.now) }
 {
     match text_of(matches, id) {
@@ -406,6 +435,43 @@ pub(crate) fn connections_of(text: Option<&str>) -> Option<u32>
     match text {
         Some(text) => number_within(text.as_bytes(), MOST_CONNECTIONS),
         None => Some(MOST_CONNECTIONS),
+    }
+}
+
+/// How many connections are served: without `--endless` the number of `--connections`, or the greatest that it may be
+/// where none is given. With `--endless` there is no end, and no number may be given beside it.
+pub(crate) fn count_of(endless: bool, text: Option<&str>) -> Option<u64>
+    ensures { result ≡ count_of endless (option_map (λ s. s.now) text.entry) }
+{
+    if endless {
+        return match text {
+            Some(_) => None,
+            None => Some(ENDLESS),
+        };
+    }
+    match connections_of(text) {
+        Some(connections) => Some(u64::from(connections)),
+        None => None,
+    }
+}
+
+/// The number of `--at-once`, or 125 where none is given.
+pub(crate) fn at_once_of(text: Option<&str>) -> Option<u32>
+    ensures { result ≡ at_once_of (option_map (λ s. s.now) text.entry) }
+{
+    match text {
+        Some(text) => number_within(text.as_bytes(), MOST_AT_ONCE),
+        None => Some(USUAL_AT_ONCE),
+    }
+}
+
+/// The number of `--budget`, or 256 where none is given.
+pub(crate) fn budget_of(text: Option<&str>) -> Option<u32>
+    ensures { result ≡ budget_of (option_map (λ s. s.now) text.entry) }
+{
+    match text {
+        Some(text) => number_within(text.as_bytes(), MOST_BUDGET),
+        None => Some(USUAL_BUDGET),
     }
 }
 
@@ -572,10 +638,17 @@ fn read_check(alloc: Global, matches: &ArgMatches) -> Result<Command, Refused<Us
     })
 }
 
-fn read_serve(alloc: Global, matches: &ArgMatches) -> Result<Command, Refused<Usage>>
-    ensures { GivesOrUsage (serve_of (subcommand_rows_of matches.now)) result }
+// What `serve` asks for, with these numbers.
+fn serve_with(
+    alloc: Global,
+    connections: u64,
+    at_once: u32,
+    budget: u32,
+    matches: &ArgMatches,
+) -> Result<Command, Refused<Usage>>
+    ensures exact { GivesOrUsage (serve_with connections at_once budget (subcommand_rows_of matches.now)) result }
+    ensures few { IfOk result HasFewPeers }
 {
-    let connections = connections_of(text_of(matches, "connections")).ok_or(Usage)?;
     let file = text_of(matches, "file").ok_or(Usage)?;
     let address = text_of(matches, "address").ok_or(Usage)?;
     if !is_name(address.as_bytes()) {
@@ -587,9 +660,22 @@ fn read_serve(alloc: Global, matches: &ArgMatches) -> Result<Command, Refused<Us
     Ok(Command::Serve {
         grow,
         connections,
+        at_once,
+        budget,
         file,
         address,
     })
+}
+
+fn read_serve(alloc: Global, matches: &ArgMatches) -> Result<Command, Refused<Usage>>
+    ensures exact { GivesOrUsage (serve_of (subcommand_rows_of matches.now)) result }
+    ensures few { IfOk result HasFewPeers }
+{
+    let endless = is_set(matches, "endless");
+    let connections = count_of(endless, text_of(matches, "connections")).ok_or(Usage)?;
+    let at_once = at_once_of(text_of(matches, "at-once")).ok_or(Usage)?;
+    let budget = budget_of(text_of(matches, "budget")).ok_or(Usage)?;
+    serve_with(alloc, connections, at_once, budget, matches)
 }
 
 fn read_make(alloc: Global, matches: &ArgMatches) -> Result<Command, Refused<Usage>>

@@ -29,6 +29,7 @@ where
     total: usize,
     accepted: usize,
     given: Vec<(C::End, u8)>,
+    announced: Option<(u32, Hash32)>,
     ghost fresh: { All
         (λ c. IsFresh (told_now C.left C.written C.ended C.Source.faults C.Sink.faults c)) waiting.items },
     ghost tied: { waiting.items ≡ drop accepted first.value.items },
@@ -61,6 +62,7 @@ where
             total,
             accepted: 0,
             given,
+            announced: None,
         })
     }
 
@@ -82,6 +84,11 @@ where
         ensures { result.now ≡ self.now.given.items }
     {
         self.given.as_slice()
+    }
+
+    /// The height and the hash of the chain's last block, as they were announced last.
+    pub fn announced(&self) -> Option<(u32, Hash32)> {
+        self.announced
     }
 }
 
@@ -124,7 +131,9 @@ where
         Ok(())
     }
 
-    fn announce(&mut self, _height: u32, _tip: &Hash32) {}
+    fn announce(&mut self, height: u32, tip: &Hash32) {
+        self.announced = Some((height, *tip));
+    }
 
     /// It fails exactly where that call is to fail, or where no connection is left.
     fn accept(&mut self) -> Result<C, Failed>

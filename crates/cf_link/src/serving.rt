@@ -291,7 +291,7 @@ fn accept_all<L: Link, S: Service + Send + 'static, F: Flag, K: Spawner>(
     service: &S,
     link: &mut L,
     spawner: &mut K,
-    n: u32,
+    n: u64,
     line: &mut Line<ServeTask<L::Conn, S>, F>,
 ) -> Result<(), ServeFail>
 where
@@ -321,7 +321,7 @@ pub fn serve<L: Link, S: Service + Send + 'static, K: Spawner>(
     service: &S,
     link: &mut L,
     spawner: &mut K,
-    n: u32,
+    n: u64,
 ) -> Result<(), ServeFail>
 where
     L::Conn: Send + 'static,

@@ -1,32 +1,27 @@
 //! Connections over TCP. They tell no bytes.
-ghost use Rattle.std.specs.Prelude.{◌≡◌, ◌≤◌, ◌-◌, None};
+ghost use Rattle.std.specs.Prelude.{◌≡◌, ◌≤◌, ◌-◌, None, IfOk};
 ghost use Rattle.cf_bytes.specs.{HasRisen};
 
+use crate::door::Door;
+use crate::limits::Limits;
 use crate::link::Link;
-use cf_bytes::{Failed, Hash32, Sink};
+use crate::paced::Paced;
+use cf_bytes::{Failed, Hash32, NoMemory, Sink};
 use cf_conn::{Duplex, Source};
-use cf_tasks::{read_some, write_some};
+use std::alloc::Global;
 use std::io::{Eprint, ErrorKind};
 use std::net::{Net, SocketAddr, TcpListener, TcpStream};
 use std::time::{Clock, Duration};
 use std::{io, thread};
 
-/// How long a peer may take until it reads something of what is written to it, in seconds.
-const WRITE_SECONDS: u64 = 60;
-
-/// How long the system is given to get what it lacks for a connection, before it is asked again, in milliseconds.
+// How long a pause is, in milliseconds.
 const PAUSE: u64 = 100;
 
-/// How often at most it is told that the system lacks something for a connection, in seconds.
-const TELL_SECONDS: u64 = 60;
-
-/// How long a peer may be silent, in seconds.
-const READ_SECONDS: u64 = 1200;
-
-/// A connection over TCP.
+/// A connection over TCP. Its peer is held to times, and what it sends to a budget: where the peer is late, a read or
+/// a write fails.
 #[derive(Drop)]
-pub struct TcpConn {
-    stream: TcpStream,
+pub struct TcpConn<R> {
+    paced: Paced<R>,
     ended: bool,
     reads: u64,
     writes: u64,
@@ -40,7 +35,7 @@ pub struct TcpEnd {
     writes: u64,
 }
 
-impl Source for TcpConn {
+impl<R: Clock + Drop> Source for TcpConn<R> {
     ghost left = { λ _. None };
 
     ghost ended = { λ c. c.ended };
@@ -52,7 +47,7 @@ impl Source for TcpConn {
     }
 }
 
-impl Sink for TcpConn {
+impl<R: Clock + Drop> Sink for TcpConn<R> {
     ghost written = { λ _. None };
 
     ghost faults = { λ c. c.writes };
@@ -64,7 +59,7 @@ impl Sink for TcpConn {
     }
 }
 
-impl Duplex for TcpConn {
+impl<R: Clock + Drop> Duplex for TcpConn<R> {
     type End = TcpEnd;
 
     ghost tells = { λ e. record {
@@ -76,7 +71,7 @@ impl Duplex for TcpConn {
     } };
 
     fn receive(&mut self, into: &mut [u8]) -> Result<usize, Failed> {
-        match read_some(&self.stream, into) {
+        match self.paced.read(into) {
             Ok(n) => {
                 self.ended = self.ended || (n == 0 && !into.is_empty());
                 Ok(n)
@@ -89,7 +84,7 @@ impl Duplex for TcpConn {
     }
 
     fn send(&mut self, from: &[u8]) -> Result<usize, Failed> {
-        match write_some(&self.stream, from) {
+        match self.paced.write(from) {
             Ok(n) => Ok(n),
             Err(_) => {
                 self.writes = self.writes.saturating_add(1);
@@ -99,23 +94,31 @@ impl Duplex for TcpConn {
     }
 
     fn close(self) -> TcpEnd {
+        let TcpConn {
+            paced,
+            ended,
+            reads,
+            writes,
+        } = self;
+        paced.close();
         TcpEnd {
-            ended: self.ended,
-            reads: self.reads,
-            writes: self.writes,
+            ended,
+            reads,
+            writes,
         }
     }
 }
 
-/// A listener over TCP. It tells neither addresses nor bytes. Where the system has no memory or no descriptor for the
-/// next connection, it waits, and tells that on standard error, at most once a minute.
+/// A listener over TCP. It tells neither addresses nor bytes. It serves so many connections at a time as its limits
+/// say; the next ones wait, or one is cut for them that has told no `version` for a second, that has left a message or
+/// an answer where it is for five, that is idle for a minute, or whose address has more than a quarter of all. Where the
+/// system has no memory or no descriptor for the next connection, it waits, and tells that on standard error, at most
+/// once a minute.
 #[derive(Drop)]
 pub struct TcpLink<R> {
     rt: R,
-    listener: Option<TcpListener>,
+    door: Door,
     reason: Option<io::Error>,
-    // When it was last told that something is lacking.
-    told: Option<Duration>,
     faults: u64,
     accepted: u64,
     returned: u64,
@@ -123,24 +126,47 @@ pub struct TcpLink<R> {
 }
 
 impl<R: Net<Listener = TcpListener, Stream = TcpStream>> TcpLink<R> {
-    /// A link that doesn't listen yet.
-    pub fn new(rt: R) -> TcpLink<R>
-        ensures { (result.faults ≡ 0) × (result.accepted ≡ 0) × (result.returned ≡ 0) }
+    /// A link that doesn't listen yet, with these limits.
+    ///
+    /// # Errors
+    ///
+    /// Where no memory is found.
+    pub fn new(rt: R, alloc: Global, limits: Limits) -> Result<TcpLink<R>, NoMemory>
+    where
+        R: Drop,
+        ensures { IfOk result (λ l. (l.faults ≡ 0) × (l.accepted ≡ 0) × (l.returned ≡ 0)) }
     {
-        TcpLink {
-            rt,
-            listener: None,
-            reason: None,
-            told: None,
-            faults: 0,
-            accepted: 0,
-            returned: 0,
+        match Door::new(alloc, limits) {
+            Some(door) => Ok(TcpLink {
+                rt,
+                door,
+                reason: None,
+                faults: 0,
+                accepted: 0,
+                returned: 0,
+            }),
+            None => Err(NoMemory),
         }
+    }
+
+    /// Takes an address before `listen` is called for it: connections wait in the system's queue from now on.
+    ///
+    /// # Errors
+    ///
+    /// The system's reason, where it can't be listened at.
+    pub fn prepare(&mut self, address: &str) -> io::Result<()>
+        ensures faults { self.new.faults ≡ self.old.faults }
+        ensures accepted { self.new.accepted ≡ self.old.accepted }
+        ensures returned { self.new.returned ≡ self.old.returned }
+    {
+        let listener = TcpListener::bind(&self.rt, address)?;
+        self.door.open(listener);
+        Ok(())
     }
 
     /// Where it listens, with the port that the system chose where 0 was asked for.
     pub fn local_addr(&self) -> Option<SocketAddr> {
-        let listener = self.listener.as_ref()?;
+        let listener = self.door.listener()?;
         listener.local_addr().ok()
     }
 
@@ -161,73 +187,9 @@ impl<R: Net<Listener = TcpListener, Stream = TcpStream>> TcpLink<R> {
     }
 }
 
-// A peer may be silent for so long, and may leave unread for so long what is written to it; and nothing waits to be
-// sent.
-fn set_limits(stream: &TcpStream) -> io::Result<()> {
-    stream.set_read_timeout(Some(Duration::from_secs(READ_SECONDS)))?;
-    stream.set_write_timeout(Some(Duration::from_secs(WRITE_SECONDS)))?;
-    stream.set_nodelay(true)
-}
-
-// Whether the system lacked something for a connection that it may have later: memory, or descriptors, of its own or of
-// this process, which connections give back as they end. (ENOMEM, ENFILE, EMFILE, ENOBUFS)
-fn is_want(e: &io::Error) -> bool {
-    matches!(e.raw_os_error(), Some(12 | 23 | 24 | 105))
-}
-
-// Whether a connection was given up, forbidden or cut before it was accepted, or the call was interrupted. The next one
-// may do. (EPERM, EINTR, ENONET, EPROTO, ENOPROTOOPT, ENETDOWN, ENETUNREACH, ECONNABORTED, EHOSTDOWN, EHOSTUNREACH)
-fn is_lost(e: &io::Error) -> bool {
-    matches!(
-        e.raw_os_error(),
-        Some(1 | 4 | 64 | 71 | 92 | 100 | 101 | 103 | 112 | 113)
-    )
-}
-
-// Tells on standard error what the system lacks, unless that was told within the last minute.
-fn tell_want<R: Clock + Eprint>(rt: &R, told: &mut Option<Duration>, e: &io::Error) {
-    let Ok(now) = rt.monotonic() else {
-        return;
-    };
-    if let Some(last) = told {
-        if now.saturating_sub(*last) < Duration::from_secs(TELL_SECONDS) {
-            return;
-        }
-    }
-    *told = Some(now);
-    let _told = eprintln!(rt; "cf: the next connection waits: {e}");
-}
-
-// The next connection. One that is lost before it was accepted is passed over, and what the system lacks is waited for.
-fn next_of<R: Clock + Eprint>(
-    rt: &R,
-    listener: &Option<TcpListener>,
-    told: &mut Option<Duration>,
-) -> io::Result<TcpStream> {
-    let Some(listener) = listener else {
-        return Err(io::Error::from(ErrorKind::NotConnected));
-    };
-    for _ in 0..u64::MAX {
-        match listener.accept() {
-            Ok((stream, _)) => {
-                if set_limits(&stream).is_ok() {
-                    return Ok(stream);
-                }
-            }
-            Err(e) if is_lost(&e) => {}
-            Err(e) if is_want(&e) => {
-                tell_want(rt, told, &e);
-                thread::sleep(rt, Duration::from_millis(PAUSE));
-            }
-            Err(e) => return Err(e),
-        }
-    }
-    Err(io::Error::from(ErrorKind::ConnectionAborted))
-}
-
-impl<R: Net<Listener = TcpListener, Stream = TcpStream> + Clock + Eprint + Drop> Link
+impl<R: Net<Listener = TcpListener, Stream = TcpStream> + Clock + Eprint + Copy + Drop> Link
     for TcpLink<R> {
-    type Conn = TcpConn;
+    type Conn = TcpConn<R>;
 
     ghost faults = { λ l. l.faults };
 
@@ -242,26 +204,26 @@ impl<R: Net<Listener = TcpListener, Stream = TcpStream> + Clock + Eprint + Drop>
     ghost given = { λ _. None };
 
     fn listen(&mut self, address: &str) -> Result<(), Failed> {
-        match TcpListener::bind(&self.rt, address) {
-            Ok(listener) => {
-                self.listener = Some(listener);
-                Ok(())
-            }
+        if self.door.listener().is_some() {
+            return Ok(());
+        }
+        match self.prepare(address) {
+            Ok(()) => Ok(()),
             Err(reason) => Err(self.failed(reason)),
         }
     }
 
     fn announce(&mut self, _height: u32, _tip: &Hash32) {}
 
-    fn accept(&mut self) -> Result<TcpConn, Failed> {
+    fn accept(&mut self) -> Result<TcpConn<R>, Failed> {
         if self.accepted == u64::MAX {
             return Err(self.failed(io::Error::from(ErrorKind::QuotaExceeded)));
         }
-        match next_of(&self.rt, &self.listener, &mut self.told) {
-            Ok(stream) => {
+        match self.door.next(&self.rt) {
+            Ok(paced) => {
                 self.accepted += 1;
                 Ok(TcpConn {
-                    stream,
+                    paced,
                     ended: false,
                     reads: 0,
                     writes: 0,

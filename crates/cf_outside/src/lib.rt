@@ -13,5 +13,5 @@ pub use entry::{CHUNK, Chunk, EntryKind, Seconds};
 pub use outside::{Dialer, Pulse, Writer};
 pub use reader::{Finished, Reader};
 pub use stop::StopFlag;
-pub use tcp::{FailedDial, TcpDialer, TcpSource, TcpWriter};
+pub use tcp::{FailedDial, TcpDialer, TcpSource, TcpWriter, is_host_and_port};
 pub use ticker::{Stopped, Ticker};

@@ -57,6 +57,8 @@ fn text_of(alloc: Global, link: &ListLink<PatientConn>) -> Result<String, Fail> 
     Ok(text)
 }
 
+// A server that serves one connection after another waits in vain, and so does one by whose spawner the task runs before
+// its thread stands.
 #[test]
 fn a_silent_connection_keeps_no_other_waiting(rt: HostRuntime) -> Result<(), Fail> {
     let alloc = rt.alloc();

@@ -1,17 +1,13 @@
 use Rattle.std.specs.Prelude.{codes}
-use Rattle.clap.specs.Words.{new_app, new_rule, with_rule}
-use Rattle.cf_input.specs.Words.{flag_rule, needed, option_rule}
+use Rattle.clap.specs.Words.{new_rule, with_rule}
+use Rattle.cf_input.specs.Words.{needed, serve_options_app}
 use Rattle.cf_input.proofs.words.serve_command.Goals as goal
 
 pub returns-clause-app : goal.returns-clause-app
 returns-clause-app c =
-    let grow = flag_rule (codes "grow") in
-    let connections = option_rule (codes "connections") in
-    let option = with_rule (new_app (codes "serve")) grow in
-    let one = c.with_arg-command.ensures.app (new_app (codes "serve")) grow c.new.ensures.app c.flag_arg.ensures.0 in
-    let two = c.with_arg-command-2.ensures.app option connections one c.option_arg.ensures.0 in
-    let three = c.with_arg-command-3.ensures.app (with_rule option connections) (needed (new_rule (codes "file"))) two c.word_arg.ensures.0 in
-    c.with_arg.ensures.app (with_rule (with_rule option connections) (needed (new_rule (codes "file")))) (needed (new_rule (codes "address"))) three c.word_arg-2.ensures.0
+    let file = needed (new_rule (codes "file")) in
+    let named = c.with_arg-command.ensures.app serve_options_app file c.serve_options.ensures.app c.word_arg.ensures.0 in
+    c.with_arg.ensures.app (with_rule serve_options_app file) (needed (new_rule (codes "address"))) named c.word_arg-2.ensures.0
 
 pub returns-clause-globals : goal.returns-clause-globals
 returns-clause-globals c = c.with_arg.ensures.globals
