@@ -9,6 +9,9 @@ use cf_bytes::{Cut, NoMemory, Refused};
 use std::alloc::Global;
 use std::marker::Model;
 
+/// How many bytes of room are kept at most once a frame was given. More is kept only for bytes that wait.
+const MOST_ROOM: usize = 65_536;
+
 /// A stream that comes in pieces. A contract sees the bytes that were fed and not yet given as frames.
 #[derive(Drop)]
 pub struct Framer {
@@ -147,7 +150,8 @@ impl Framer {
 }
 
 // The bytes before this place were given: the place where those that wait begin then is answered. The given ones are
-// let go once they are at least as many as those that wait, so each byte is moved at most once on average.
+// let go once they are at least as many as those that wait, so each byte is moved at most once on average, and so is the
+// room that a large frame took.
 fn let_go(bytes: &mut Vec<u8>, start: usize) -> usize
     requires { start ≤ vec_len bytes.old }
     ensures same { drop result bytes.new.items ≡ drop start bytes.old.items }
@@ -155,6 +159,7 @@ fn let_go(bytes: &mut Vec<u8>, start: usize) -> usize
 {
     if start >= bytes.len() - start {
         drop(bytes.drain(..start));
+        bytes.shrink_to(MOST_ROOM);
         return 0;
     }
     start

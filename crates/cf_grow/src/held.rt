@@ -1,21 +1,23 @@
 //! What a message is answered with, held so that the chain isn't needed any more.
-ghost use Rattle.std.specs.Prelude.{◌≡◌, ◌≤◌, ◌++◌, ◌∷◌, [], length, slice_index_or, true, IfOk, OnOk};
+ghost use Rattle.std.specs.Prelude.{◌≡◌, ◌≤◌, ◌<◌, ◌++◌, ◌∷◌, [], List, ℕ, length, get_or, slice_index_or, true, IfOk, OnErr, OnOk};
 ghost use Rattle.std.specs.List.{AllByRecursion};
 ghost use Rattle.cf_block.specs.{first_block, IsBlock};
-ghost use Rattle.cf_chain.specs.{IsGoodChain, announcement, asked_for, all_blocks};
+ghost use Rattle.cf_chain.specs.{IsGoodChain, announcement, asked_for, all_blocks, cfilter_of, filters_of, first_filtered};
 ghost use Rattle.cf_frame.specs.{spelling};
 ghost use Rattle.cf_grow.specs.Growing.{messages_in, news_in};
+ghost use Rattle.cf_grow.specs.declared.held.Held.{Held as HeldPart};
+ghost use Rattle.cf_grow.specs.declared.held.Held.TheVariants.{Block as BlockPart};
 ghost use Rattle.cf_grow.specs.Held.{text_in, texts_in};
-ghost use Rattle.cf_msg.specs.declared.msg.Msg.TheVariants.{Block as BlockMessage};
+ghost use Rattle.cf_msg.specs.declared.msg.Msg.TheVariants.{Block as BlockMessage, Cfilter as CfilterMessage};
 ghost use Rattle.cf_msg.specs.{IsEntry, IsWithinLimits, frame_of, payload_of};
 ghost use Rattle.cf_server.specs.{AreRepliesOf, IsReplyOf, message_of, messages_of, text_of};
 
 use crate::taking::Answer;
 use cf_bytes::{Hash32, Listed, NoMemory};
 use cf_frame::encode;
-use cf_index::{Index, SharedBlock};
+use cf_index::{Index, SharedBlock, SharedFilter};
 use cf_msg::{BLOCK_KIND, Bytes, Entries, Inventory, Msg, frame_block};
-use cf_server::{Reply, Serving, message_bytes, write_reply};
+use cf_server::{Reply, Serving, filter_bytes, message_bytes, write_reply};
 use std::alloc::Global;
 use std::marker::Model;
 
@@ -45,12 +47,30 @@ impl HeldBlock {
         HeldBlock { shared }
     }
 
-    /// The bytes of its frame.
-    pub(crate) fn frame(&self, alloc: Global) -> Result<Vec<u8>, NoMemory>
+    // The bytes of its frame.
+    fn frame(&self, alloc: Global) -> Result<Vec<u8>, NoMemory>
         ensures { IfOk result (λ bytes. bytes.items ≡ spelling (frame_of (BlockMessage self.now))) }
     {
         let frame = frame_block(alloc, self.shared.block())?;
         encode(alloc, &frame.command, frame.payload.as_slice())
+    }
+}
+
+/// A filter that is to be sent, and its block's hash. It is shared with the chain, and fits into a frame.
+#[derive(Drop)]
+pub struct HeldFilter {
+    block: Hash32,
+    filter: SharedFilter,
+    ghost few: { length filter ≤ 3999900 },
+}
+
+impl HeldFilter {
+    // The bytes of its frame.
+    fn frame(&self, alloc: Global) -> Result<Vec<u8>, NoMemory>
+        ensures { IfOk result
+            (λ bytes. bytes.items ≡ spelling (frame_of (CfilterMessage 0 self.now.block self.now.filter))) }
+    {
+        filter_bytes(alloc, &self.block, self.filter.as_slice())
     }
 }
 
@@ -61,10 +81,126 @@ pub enum Held {
     Bytes(Bytes),
     /// The frame of a block.
     Block(HeldBlock),
+    /// The frame of a filter.
+    Filter(HeldFilter),
 }
 
-/// The parts of an answer, in their order.
-pub type Parts = Listed<Held>;
+impl Held {
+    // Puts its bytes at the end of those that wait.
+    fn put(&self, alloc: Global, waiting: &mut Vec<u8>) -> Result<(), NoMemory>
+        ensures { OnOk result (waiting.new.items ≡ waiting.old.items ++ text_in self.now) }
+    {
+        match self {
+            Held::Bytes(bytes) => waiting.extend_from_slice(bytes.as_slice())?,
+            Held::Block(block) => put_frame(block.frame(alloc), waiting)?,
+            Held::Filter(filter) => put_frame(filter.frame(alloc), waiting)?,
+        }
+        Ok(())
+    }
+}
+
+// Puts a frame at the end of the bytes that wait.
+fn put_frame(frame: Result<Vec<u8>, NoMemory>, waiting: &mut Vec<u8>) -> Result<(), NoMemory>
+    ensures { (text : List ℕ) → IfOk frame (λ bytes. bytes.items ≡ text)
+        → OnOk result (waiting.new.items ≡ waiting.old.items ++ text) }
+{
+    let bytes = frame?;
+    waiting.extend_from_slice(&bytes)?;
+    Ok(())
+}
+
+/// The parts of an answer, in their order. Contracts see them as a list. Many blocks may be asked for at once: each
+/// takes one pointer.
+#[derive(Drop)]
+pub struct Parts {
+    first: Listed<Held>,
+    blocks: Listed<HeldBlock>,
+    others: Listed<Held>,
+}
+
+impl Model for Parts {
+    ghost use Rattle.std.specs.Prelude.{List, ◌++◌, map};
+    ghost use Rattle.cf_grow.specs.declared.held.Held.{Held};
+    ghost use Rattle.cf_grow.specs.declared.held.Held.TheVariants.{Block};
+
+    ghost Value = { List Held };
+
+    ghost view = { λ s. s.first ++ (map (λ b. Block b) s.blocks ++ s.others) };
+}
+
+impl Parts {
+    // None yet.
+    fn new(alloc: Global) -> Parts
+        ensures { result ≡ [] }
+    {
+        Parts {
+            first: Listed::new(alloc),
+            blocks: Listed::new(alloc),
+            others: Listed::new(alloc),
+        }
+    }
+
+    // Puts a block at the end.
+    fn push_block(&mut self, block: HeldBlock) -> Result<(), NoMemory>
+        ensures ok { OnOk result (self.new ≡ self.old ++ BlockPart block ∷ []) }
+        ensures err { OnErr result (self.new ≡ self.old) }
+    {
+        if self.others.is_empty() {
+            return self.blocks.push(block);
+        }
+        self.others.push(Held::Block(block))
+    }
+
+    // Puts another part at the end.
+    fn push_other(&mut self, part: Held) -> Result<(), NoMemory>
+        ensures ok { OnOk result (self.new ≡ self.old ++ part ∷ []) }
+        ensures err { OnErr result (self.new ≡ self.old) }
+    {
+        if self.blocks.is_empty() && self.others.is_empty() {
+            return self.first.push(part);
+        }
+        self.others.push(part)
+    }
+
+    // Puts a part at the end.
+    fn push(&mut self, part: Held) -> Result<(), NoMemory>
+        ensures ok { OnOk result (self.new ≡ self.old ++ part ∷ []) }
+        ensures err { OnErr result (self.new ≡ self.old) }
+    {
+        match part {
+            Held::Block(block) => self.push_block(block),
+            other => self.push_other(other),
+        }
+    }
+
+    // How many there are.
+    pub(crate) fn len(&self) -> usize
+        ensures { result ≡ length self.now }
+    {
+        self.first.len() + self.blocks.len() + self.others.len()
+    }
+
+    // Puts the bytes of the part at this place, from 0, at the end of those that wait.
+    pub(crate) fn put(
+        &self,
+        alloc: Global,
+        place: usize,
+        waiting: &mut Vec<u8>,
+    ) -> Result<(), NoMemory>
+        requires { place < length self.now }
+        ensures { OnOk result ((d : HeldPart) → waiting.new.items ≡ waiting.old.items ++ text_in (get_or self.now place d)) }
+    {
+        let first = self.first.len();
+        if place < first {
+            return self.first.as_slice()[place].put(alloc, waiting);
+        }
+        let above = place - first;
+        if above < self.blocks.len() {
+            return put_frame(self.blocks.as_slice()[above].frame(alloc), waiting);
+        }
+        self.others.as_slice()[above - self.blocks.len()].put(alloc, waiting)
+    }
+}
 
 // The frame of a message, at the end.
 #[tactic(auto, using(crate::proofs::Holding::held_message))]
@@ -133,7 +269,21 @@ fn hold_block(index: &Index, height: u32) -> Result<Held, NoMemory>
     }
 }
 
-// A reply: a block as a share, and all others as bytes.
+// The filter at a height.
+fn hold_filter(index: &Index, height: u32) -> Result<Held, NoMemory>
+    requires good { IsGoodChain index.now }
+    requires there { height ≤ length index.now }
+    ensures { IfOk result (λ part. text_in part
+        ≡ spelling (frame_of (cfilter_of (slice_index_or (filters_of index.now) height first_filtered)))) }
+{
+    let (Some(block), Some(filter)) = (index.hash(height), index.shared_filter(height)) else {
+        unreachable!()
+    };
+    let filter = filter.share()?;
+    Ok(Held::Filter(HeldFilter { block, filter }))
+}
+
+// A reply: a block or a filter as a share, and all others as bytes.
 fn hold_reply(
     alloc: Global,
     index: &Index,
@@ -143,13 +293,16 @@ fn hold_reply(
     requires { IsReplyOf index.now reply }
     ensures { IfOk result (λ part. text_in part ≡ spelling (frame_of (message_of served.now index.now reply))) }
 {
-    // An index has a good chain, whose blocks can be sent.
+    // An index has a good chain, whose blocks and filters can be sent.
     let _tip = index.tip();
-    if let Reply::BlockAt(height) = reply {
-        return hold_block(index, height);
+    match reply {
+        Reply::BlockAt(height) => hold_block(index, height),
+        Reply::CfilterAt(height) => hold_filter(index, height),
+        other => {
+            let bytes = write_reply(alloc, index, served, other)?;
+            Ok(Held::Bytes(Bytes::from_vec(bytes)))
+        }
     }
-    let bytes = write_reply(alloc, index, served, reply)?;
-    Ok(Held::Bytes(Bytes::from_vec(bytes)))
 }
 
 // Replies, at the end.

@@ -16,7 +16,7 @@ mod taking;
 pub use ending::Ending;
 pub use growing::GrowingServer;
 pub use grown::{Grown, Taken, take_locked};
-pub use held::{Held, HeldBlock, Parts};
+pub use held::{Held, HeldBlock, HeldFilter, Parts};
 pub use joins::{Joins, Nobody};
 pub use mark::{ServedMark, Shrunk, TakeFail};
 pub use serve::serve_grown;

@@ -44,7 +44,7 @@ fn tell<J: Joins>(joins: &J, height: Option<u32>) {
 }
 
 // Reads a frame's message, takes one step under the lock, and writes what the message is answered with once the lock is
-// let go.
+// let go. Neither the frame nor the message is held while it is written.
 fn answer_frame<R: Wait, J: Joins, C: Duplex>(
     rt: &R,
     alloc: Global,
@@ -52,10 +52,10 @@ fn answer_frame<R: Wait, J: Joins, C: Duplex>(
     joins: &J,
     conn: &mut C,
     mark: &mut ServedMark,
-    frame: &Frame,
+    frame: Frame,
 ) -> Result<(), Ending>
-    requires { IsFrame frame.now }
-    ensures answers { AnswersFrame result mark.old.served.time mark.old.served.nonce (message_in frame.now)
+    requires { IsFrame frame }
+    ensures answers { AnswersFrame result mark.old.served.time mark.old.served.nonce (message_in frame)
         (mark_of mark.old) (mark_of mark.new) (C.written conn.old) (C.written conn.new) }
     ensures moment { HasMomentOf mark.old mark.new }
     ensures count { CountsSends result (C.Sink.faults conn.old) (C.Sink.faults conn.new) }
@@ -63,14 +63,15 @@ fn answer_frame<R: Wait, J: Joins, C: Duplex>(
     ensures ended { C.ended conn.new ≡ C.ended conn.old }
     ensures read_faults { C.Source.faults conn.new ≡ C.Source.faults conn.old }
 {
-    let msg = match read_spelled(alloc, frame) {
+    let msg = match read_spelled(alloc, &frame) {
         Ok(msg) => msg,
         Err(Refused::No(fault)) => return Err(Ending::Served(ServeEnd::Malformed(fault))),
         Err(Refused::NoMemory) => return Err(Ending::Served(ServeEnd::NoMemory)),
     };
+    drop(frame);
     let taken = take_locked(rt, alloc, grown, mark, msg)?;
     tell(joins, taken.joined);
-    send_parts(alloc, conn, taken.parts.as_slice())?;
+    send_parts(alloc, conn, &taken.parts)?;
     Ok(())
 }
 
@@ -117,7 +118,7 @@ fn take_frames<R: Wait, J: Joins, C: Duplex>(
     ensures read_faults { C.Source.faults conn.new ≡ C.Source.faults conn.old }
 {
     while let Some(frame) = next_frame(&mut session.framer)? {
-        answer_frame(rt, alloc, grown, joins, conn, &mut session.mark, &frame)?;
+        answer_frame(rt, alloc, grown, joins, conn, &mut session.mark, frame)?;
         session.left -= 1;
         if session.left == 0 {
             return Err(Ending::Served(ServeEnd::Tired));

@@ -19,7 +19,7 @@ use crate::block_filter::BlockFilter;
 use crate::checked::CheckedChain;
 use crate::filters::{all_filters, bare_filter, with_header};
 use crate::heights::{Heights, heights_of};
-use crate::shared::{SharedBlock, SharedBlocks, shared_blocks};
+use crate::shared::{SharedBlock, SharedBlocks, SharedFilter, shared_blocks};
 use cf_block::{Block, Header, TxIds, block_hash, genesis, txids};
 use cf_bytes::{Hash32, Listed, NoMemory, Refused};
 use cf_coins::{Coins, Spent, spend_block};
@@ -347,6 +347,13 @@ impl Index {
     {
         self.filter_of(height)
             .map(|filter| filter.filter.as_slice())
+    }
+
+    /// The same, to be shared.
+    pub fn shared_filter(&self, height: u32) -> Option<&SharedFilter>
+        ensures { option_copied result ≡ option_map (λ f. f.filter) (filter_at self.now height) }
+    {
+        self.filter_of(height).map(|filter| &filter.filter)
     }
 
     /// The hash of its filter.

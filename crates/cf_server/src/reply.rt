@@ -1,5 +1,11 @@
 //! What is sent for a message, planned by heights.
-use cf_bytes::{Hash32, Listed};
+ghost use Rattle.std.specs.Prelude.{◌≡◌, ◌<◌, ◌++◌, ◌∷◌, [], length, get_or, IfOk, OnOk, OnErr};
+ghost use Rattle.cf_server.specs.declared.reply.Reply.{Reply};
+ghost use Rattle.cf_server.specs.declared.reply.Reply.TheVariants.{BlockAt};
+
+use cf_bytes::{Hash32, Listed, NoMemory};
+use std::alloc::Global;
+use std::marker::Model;
 
 /// A reply. It tells by heights what of the chain it sends, so no plan of replies copies the chain.
 #[derive(Clone, Copy, Debug, PartialEq, Eq)]
@@ -34,3 +40,84 @@ pub enum Reply {
 
 /// Replies in their order.
 pub type Replies = Listed<Reply>;
+
+// Replies that wait to be written. Each block at their front takes 4 bytes: many may be asked for at once.
+#[derive(Drop)]
+pub(crate) struct Planned {
+    blocks: Listed<u32>,
+    others: Replies,
+}
+
+impl Model for Planned {
+    ghost use Rattle.std.specs.Prelude.{List, ◌++◌, map};
+    ghost use Rattle.cf_server.specs.declared.reply.Reply.{Reply};
+    ghost use Rattle.cf_server.specs.declared.reply.Reply.TheVariants.{BlockAt};
+
+    ghost Value = { List Reply };
+
+    ghost view = { λ s. map (λ h. BlockAt h) s.blocks ++ s.others };
+}
+
+impl Planned {
+    // None yet.
+    fn new(alloc: Global) -> Planned
+        ensures { result ≡ [] }
+    {
+        Planned {
+            blocks: Listed::new(alloc),
+            others: Replies::new(alloc),
+        }
+    }
+
+    // Puts a block's height at the front's end, where nothing else follows.
+    fn put_block(&mut self, height: u32) -> Result<(), NoMemory>
+        ensures ok { OnOk result (self.new ≡ self.old ++ BlockAt height ∷ []) }
+        ensures err { OnErr result (self.new ≡ self.old) }
+    {
+        if self.others.is_empty() {
+            return self.blocks.push(height);
+        }
+        self.others.push(Reply::BlockAt(height))
+    }
+
+    // Puts one at the end.
+    fn put(&mut self, reply: Reply) -> Result<(), NoMemory>
+        ensures ok { OnOk result (self.new ≡ self.old ++ reply ∷ []) }
+        ensures err { OnErr result (self.new ≡ self.old) }
+    {
+        match reply {
+            Reply::BlockAt(height) => self.put_block(height),
+            _ => self.others.push(reply),
+        }
+    }
+
+    // These replies.
+    pub(crate) fn of(alloc: Global, replies: Replies) -> Result<Planned, NoMemory>
+        ensures { IfOk result (λ planned. planned ≡ replies) }
+    {
+        let mut planned = Planned::new(alloc);
+        for reply in replies.as_slice() {
+            planned.put(*reply)?;
+        }
+        Ok(planned)
+    }
+
+    // How many there are.
+    pub(crate) fn len(&self) -> usize
+        ensures { result ≡ length self.now }
+    {
+        self.blocks.len() + self.others.len()
+    }
+
+    // The one at this place, from 0.
+    pub(crate) fn at(&self, place: usize) -> Reply
+        requires { place < length self.now }
+        ensures { (d : Reply) → result ≡ get_or self.now place d }
+    {
+        let first = self.blocks.len();
+        if place < first {
+            return Reply::BlockAt(self.blocks.as_slice()[place]);
+        }
+        self.others.as_slice()[place - first]
+    }
+}
