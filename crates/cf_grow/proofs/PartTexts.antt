@@ -10,26 +10,25 @@ use Rattle.cf_server.specs.Taking.{Sends}
 use Rattle.cf_server.proofs.Steps.{Waiting, front_sent}
 use Rattle.cf_server.proofs.Texts.{beginning_more, beginning_whole}
 
-texts_on : (parts : List Held) (i : ℕ) (part : Held) → i < length parts → part ≡ get_or parts i part
-    → texts_in (take (i + 1) parts) ≡ texts_in (take i parts) ++ text_in part
-texts_on parts i part lt at =
-    ap texts_in (take_more parts i part lt)
-    ∙ flat_map-append text_in (take i parts) (get_or parts i part ∷ [])
-    ∙ ap (λ (t : List ℕ). texts_in (take i parts) ++ t) (append-nil (text_in (get_or parts i part)) ∙ ap text_in (sym at))
+texts_on : (parts : List Held) (i : ℕ) (d : Held) → i < length parts
+    → texts_in (take (i + 1) parts) ≡ texts_in (take i parts) ++ text_in (get_or parts i d)
+texts_on parts i d lt =
+    ap texts_in (take_more parts i d lt)
+    ∙ flat_map-append text_in (take i parts) (get_or parts i d ∷ [])
+    ∙ ap (λ (t : List ℕ). texts_in (take i parts) ++ t) (append-nil (text_in (get_or parts i d)))
 
 texts_split : (parts : List Held) (n : ℕ) → texts_in parts ≡ texts_in (take n parts) ++ texts_in (drop n parts)
 texts_split parts n = ap texts_in (sym (take-append-drop n parts))
     ∙ flat_map-append text_in (take n parts) (drop n parts)
 
 -- one more part waits
-pub parts_more : (parts : List Held) (i : ℕ) (part : Held) (v w : List ℕ) (o p : Option (List ℕ)) → i < length parts
-    → part ≡ get_or parts i part
-    → Waiting o p v (texts_in (take i parts)) → w ≡ v ++ text_in part → Waiting o p w (texts_in (take (i + 1) parts))
-parts_more parts i part v w o p lt at waiting put = record {
+pub parts_more : (parts : List Held) (i : ℕ) (d : Held) (v w : List ℕ) (o p : Option (List ℕ)) → i < length parts
+    → Waiting o p v (texts_in (take i parts)) → w ≡ v ++ text_in (get_or parts i d) → Waiting o p w (texts_in (take (i + 1) parts))
+parts_more parts i d v w o p lt waiting put = record {
   sent = waiting.sent;
   whole = waiting.whole;
-  all = texts_on parts i part lt at ∙ ap (λ (t : List ℕ). t ++ text_in part) waiting.all
-      ∙ append_assoc waiting.sent v (text_in part)
+  all = texts_on parts i d lt ∙ ap (λ (t : List ℕ). t ++ text_in (get_or parts i d)) waiting.all
+      ∙ append_assoc waiting.sent v (text_in (get_or parts i d))
       ∙ ap (λ (t : List ℕ). waiting.sent ++ t) (sym put);
 }
 
