@@ -41,14 +41,14 @@ pub enum Reply {
 /// Replies in their order.
 pub type Replies = Listed<Reply>;
 
-// Replies that wait to be written. Each block at their front takes 4 bytes: many may be asked for at once.
+// Replies in their order. Each block at their front takes 4 bytes: many may be asked for at once.
 #[derive(Drop)]
-pub(crate) struct Planned {
+struct PackedReplies {
     blocks: Listed<u32>,
     others: Replies,
 }
 
-impl Model for Planned {
+impl Model for PackedReplies {
     ghost use Rattle.std.specs.Prelude.{List, ◌++◌, map};
     ghost use Rattle.cf_server.specs.declared.reply.Reply.{Reply};
     ghost use Rattle.cf_server.specs.declared.reply.Reply.TheVariants.{BlockAt};
@@ -58,12 +58,12 @@ impl Model for Planned {
     ghost view = { λ s. map (λ h. BlockAt h) s.blocks ++ s.others };
 }
 
-impl Planned {
+impl PackedReplies {
     // None yet.
-    fn new(alloc: Global) -> Planned
+    fn new(alloc: Global) -> PackedReplies
         ensures { result ≡ [] }
     {
-        Planned {
+        PackedReplies {
             blocks: Listed::new(alloc),
             others: Replies::new(alloc),
         }
@@ -91,26 +91,8 @@ impl Planned {
         }
     }
 
-    // These replies.
-    pub(crate) fn of(alloc: Global, replies: Replies) -> Result<Planned, NoMemory>
-        ensures { IfOk result (λ planned. planned ≡ replies) }
-    {
-        let mut planned = Planned::new(alloc);
-        for reply in replies.as_slice() {
-            planned.put(*reply)?;
-        }
-        Ok(planned)
-    }
-
-    // How many there are.
-    pub(crate) fn len(&self) -> usize
-        ensures { result ≡ length self.now }
-    {
-        self.blocks.len() + self.others.len()
-    }
-
     // The one at this place, from 0.
-    pub(crate) fn at(&self, place: usize) -> Reply
+    fn at(&self, place: usize) -> Reply
         requires { place < length self.now }
         ensures { (d : Reply) → result ≡ get_or self.now place d }
     {
@@ -119,5 +101,62 @@ impl Planned {
             return Reply::BlockAt(self.blocks.as_slice()[place]);
         }
         self.others.as_slice()[place - first]
+    }
+}
+
+// These replies, packed.
+fn pack(alloc: Global, replies: &[Reply]) -> Result<PackedReplies, NoMemory>
+    ensures { IfOk result (λ packed. packed ≡ replies.now) }
+{
+    let mut packed = PackedReplies::new(alloc);
+    for reply in replies {
+        packed.put(*reply)?;
+    }
+    Ok(packed)
+}
+
+// Replies that wait to be written, and how many there are.
+#[derive(Drop)]
+pub(crate) struct Planned {
+    replies: PackedReplies,
+    count: usize,
+}
+
+impl Model for Planned {
+    ghost use Rattle.std.specs.Prelude.{◌≡◌, List, length};
+    ghost use Rattle.cf_server.specs.declared.reply.Reply.{Reply};
+
+    ghost Value = { List Reply };
+
+    ghost view = { λ s. s.replies };
+
+    ghost invariant = { λ s. s.count ≡ length s.replies };
+}
+
+impl Planned {
+    // These replies.
+    pub(crate) fn of(alloc: Global, replies: Replies) -> Result<Planned, NoMemory>
+        ensures { IfOk result (λ planned. planned ≡ replies) }
+    {
+        let packed = pack(alloc, replies.as_slice())?;
+        Ok(Planned {
+            replies: packed,
+            count: replies.len(),
+        })
+    }
+
+    // How many there are.
+    pub(crate) fn len(&self) -> usize
+        ensures { result ≡ length self.now }
+    {
+        self.count
+    }
+
+    // The one at this place, from 0.
+    pub(crate) fn at(&self, place: usize) -> Reply
+        requires { place < length self.now }
+        ensures { (d : Reply) → result ≡ get_or self.now place d }
+    {
+        self.replies.at(place)
     }
 }

@@ -1,4 +1,4 @@
-use Rattle.std.proofs.Common.{refl, subst, arith}
+use Rattle.std.proofs.Common.{◌≡◌, refl, subst}
 use Rattle.std.specs.Prelude.{IfOk}
 use Rattle.cf_frame.specs.Frame.{spelling}
 use Rattle.cf_msg.specs.declared.msg.Msg.{Msg}

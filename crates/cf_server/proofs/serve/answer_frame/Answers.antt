@@ -1,4 +1,4 @@
-use Rattle.std.proofs.Common.{List, Result, refl, subst}
+use Rattle.std.proofs.Common.{[], Result, refl}
 use Rattle.cf_msg.specs.Reading.{message_of as message_in}
 use Rattle.cf_server.specs.declared.outcome.ServeEnd.{ServeEnd}
 use Rattle.cf_server.specs.Taking.{AnswersFrame, frame_text}

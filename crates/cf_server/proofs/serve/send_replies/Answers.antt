@@ -1,4 +1,4 @@
-use Rattle.std.proofs.Common.{ℕ, ◌+◌, ◌++◌, List, take, Option, Err, Result, refl, sym, ◌∙◌, ap, subst}
+use Rattle.std.proofs.Common.{ℕ, ◌+◌, ◌++◌, List, take, Option, Err, Result, refl, sym, ◌∙◌, ap, subst, arith}
 use Rattle.std.proofs.lemmas.List.{take_all}
 use Rattle.cf_frame.specs.Frame.{spelling}
 use Rattle.cf_msg.specs.Message.{frame_of}
@@ -35,7 +35,7 @@ returns-in_err-flush-clause-sends g c =
     let between = g.C.Sink.written c.loop-place.conn in
     let after = g.C.Sink.written c.flush.new.conn in
     let outcome = c.in_err-flush.field-0.0 in
-    let put = waiting_more served blocks replies i OwnVersion c.loop-place.waiting.items waiting before between c.loop-place-test.true c.loop-place.invariant.written
+    let put = waiting_more served blocks replies i OwnVersion c.loop-place.waiting.items waiting before between (omega (arith, c.loop-place-test.true, c.len-place-end.ensures)) c.loop-place.invariant.written
     (c.in_ok-put_reply.ensures ∙ ap (λ (r : Reply). c.loop-place.waiting.items ++ spelling (frame_of (message_of served blocks r))) (c.at.ensures OwnVersion)) in
     by_err (λ (r : Result (Unit {0}) ServeEnd). Sends r before after (text_of (messages_of served blocks replies))) _ _ c.from_residual-in_err-flush.ensures.1
     (front_in_part served blocks replies (i + 1) outcome before after
@@ -51,7 +51,7 @@ loop-place-preserved g c =
     let text = text_of (messages_of served blocks (take (i + 1) replies)) in
     let before = g.C.Sink.written c.args.conn.now in
     let between = g.C.Sink.written c.loop-place.conn in
-    let put = waiting_more served blocks replies i OwnVersion c.loop-place.waiting.items waiting before between c.loop-place-test.true c.loop-place.invariant.written
+    let put = waiting_more served blocks replies i OwnVersion c.loop-place.waiting.items waiting before between (omega (arith, c.loop-place-test.true, c.len-place-end.ensures)) c.loop-place.invariant.written
     (c.in_ok-put_reply.ensures ∙ ap (λ (r : Reply). c.loop-place.waiting.items ++ spelling (frame_of (message_of served blocks r))) (c.at.ensures OwnVersion)) in
     elim c.if-len-ge-TOGETHER.branch [
       | then-len-ge-TOGETHER+in_ok-flush w ↦
@@ -81,6 +81,6 @@ returns-clause-sends g c =
     let before = g.C.Sink.written c.args.conn.now in
     let between = g.C.Sink.written c.loop-place.conn in
     let after = g.C.Sink.written c.flush-2.new.conn in
-    let all = ap (λ (rs : List Reply). text_of (messages_of served blocks rs)) (take_all c.loop-place.place replies c.loop-place-test.false) in
+    let all = ap (λ (rs : List Reply). text_of (messages_of served blocks rs)) (take_all c.loop-place.place replies (omega (arith, c.loop-place-test.false, c.len-place-end.ensures))) in
     waiting_sent c.flush-2.result before between after c.loop-place.waiting.items (text_of (messages_of served blocks replies))
     (subst (Waiting before between c.loop-place.waiting.items) all c.loop-place.invariant.written) c.flush-2.ensures.sends
