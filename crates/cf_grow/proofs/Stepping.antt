@@ -10,7 +10,6 @@ use Rattle.cf_frame.specs.declared.frame.Frame.{Frame}
 use Rattle.cf_frame.specs.Frame.{IsFrame}
 use Rattle.cf_bytes.specs.Cut.{IsBytes}
 use Rattle.cf_grow.specs.declared.grown.Taken.{Taken}
-use Rattle.cf_grow.specs.declared.held.Held.{Held}
 use Rattle.cf_grow.specs.declared.ending.Ending.TheVariants.{Served}
 use Rattle.cf_grow.specs.declared.mark.ServedMark.{ServedMark}
 use Rattle.cf_grow.specs.declared.mark.Shrunk.{Shrunk as Hashes}
@@ -18,7 +17,7 @@ use Rattle.cf_grow.specs.declared.mark.TakeFail.{TakeFail}
 use Rattle.cf_grow.specs.declared.mark.TakeFail.TheVariants.{Shrunk as NotThere, NoMemory as OutOfMemory}
 use Rattle.cf_grow.specs.Growing.{begun_in, told_by, mark_of, IsRefusal, IsRefused, IsStep, Misses}
 use Rattle.cf_grow.specs.Standing.{Begun, hash_in, StandsOn}
-use Rattle.cf_grow.specs.Held.{texts_in}
+use Rattle.cf_grow.specs.Held.{text_all}
 use Rattle.cf_grow.specs.Serving.{Answers, Answered, AnswersFrame, IsShrunk, ending_of}
 use Rattle.cf_msg.specs.declared.msg.Msg.{Msg}
 use Rattle.cf_msg.specs.declared.msg.Malformed.{Malformed}
@@ -41,14 +40,14 @@ stands_by blocks true height hash has = has refl
 stands_by blocks false height hash has = tt
 
 -- a step answers the message by a good chain that has the first tip, and on which the mark stands
-pub step_answers : (mark now : ServedMark) (m : Msg) (taken : Taken) (sent : List Held) → sent ≡ taken.parts → IsStep mark now m taken
-    → Answers (begun_in mark) mark.served.nonce (mark_of mark) m (mark_of now) (texts_in sent)
-step_answers mark now m taken sent same step = record {
+pub step_answers : (mark now : ServedMark) (m : Msg) (taken : Taken) → IsStep mark now m taken
+    → Answers (begun_in mark) mark.served.nonce (mark_of mark) m (mark_of now) (text_all taken.parts)
+step_answers mark now m taken step = record {
   chain = step.chain;
   good = step.good;
   keeps = step.keeps;
   stands = stands_by step.chain mark.served.seen mark.height mark.hash step.has;
-  written = ap texts_in same ∙ step.answer;
+  written = step.answer;
   moved = step.next;
 }
 

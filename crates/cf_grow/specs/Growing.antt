@@ -10,7 +10,7 @@ use Rattle.cf_grow.specs.declared.mark.Shrunk.{Shrunk as Hashes}
 use Rattle.cf_grow.specs.declared.mark.TakeFail.{TakeFail}
 use Rattle.cf_grow.specs.declared.mark.TakeFail.TheVariants.{Shrunk, NoMemory}
 use Rattle.cf_grow.specs.declared.taking.Answer.{Answer}
-use Rattle.cf_grow.specs.Held.{texts_in}
+use Rattle.cf_grow.specs.Held.{text_all}
 use Rattle.cf_walk.specs.Files.{cause_on}
 use Rattle.cf_frame.specs.declared.frame.Frame.{Frame}
 use Rattle.cf_msg.specs.declared.msg.Msg.{Msg}
@@ -117,6 +117,6 @@ pub record IsStep (mark now : ServedMark) (m : Msg) (taken : Taken) : Type 0 whe
   pub good : IsGoodChain chain
   pub has : HasMark chain mark
   pub keeps : Keeps chain mark.first
-  pub answer : texts_in taken.parts ≡ text_of (answer_at mark chain m).replies
+  pub answer : text_all taken.parts ≡ text_of (answer_at mark chain m).replies
   pub next : mark_of now ≡ (answer_at mark chain m).mark
   pub joined : taken.joined ≡ joined_in chain (grown fits_on chain mark.served.seen m)

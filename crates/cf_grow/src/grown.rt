@@ -4,7 +4,7 @@ ghost use Rattle.cf_block.specs.{IsBlock};
 ghost use Rattle.cf_chain.specs.{IsGoodChain, grown};
 ghost use Rattle.cf_grow.specs.Growing.{HasMark, HasMomentOf, IsStep, Refuses, RefusesBy, TakesRoom, answer_at, fits_on, height_joined, joined_in, mark_of};
 ghost use Rattle.cf_grow.specs.Standing.{Keeps};
-ghost use Rattle.cf_grow.specs.Held.{texts_in};
+ghost use Rattle.cf_grow.specs.Held.{text_all};
 ghost use Rattle.cf_msg.specs.declared.msg.Msg.TheVariants.{Block as BlockMessage};
 ghost use Rattle.cf_msg.specs.{HasSpelling, message_of as message_in};
 ghost use Rattle.cf_server.specs.{text_of};
@@ -43,7 +43,7 @@ fn answer_held(
     requires { HasSpelling msg.now }
     ensures has { OnOk result (HasMark index.now mark.old) }
     ensures keeps { OnOk result (Keeps index.now mark.old.first) }
-    ensures answer { IfOk result (λ parts. texts_in parts ≡ text_of (answer_at mark.old index.now msg.now).replies) }
+    ensures answer { IfOk result (λ parts. text_all parts ≡ text_of (answer_at mark.old index.now msg.now).replies) }
     ensures mark { OnOk result (mark_of mark.new ≡ (answer_at mark.old index.now msg.now).mark) }
     ensures moment { HasMomentOf mark.old mark.new }
     ensures refused { Refuses index.now mark.old result }
@@ -171,7 +171,7 @@ impl Grown {
         ensures good { IsGoodChain self.old.blocks }
         ensures has { OnOk result (HasMark self.old.blocks mark.old × Keeps self.old.blocks mark.old.first) }
         ensures answer { IfOk result
-            (λ taken. texts_in taken.parts ≡ text_of (answer_at mark.old self.old.blocks msg).replies) }
+            (λ taken. text_all taken.parts ≡ text_of (answer_at mark.old self.old.blocks msg).replies) }
         ensures mark { OnOk result (mark_of mark.new ≡ (answer_at mark.old self.old.blocks msg).mark) }
         ensures grown { OnOk result (self.new.blocks ≡ grown fits_on self.old.blocks mark.old.served.seen msg) }
         ensures room { OnOk result (TakesRoom (length frame.payload) self.old self.new) }

@@ -7,7 +7,7 @@ ghost use Rattle.cf_frame.specs.{spelling};
 ghost use Rattle.cf_grow.specs.Growing.{messages_in, news_in};
 ghost use Rattle.cf_grow.specs.declared.held.Held.{Held as HeldPart};
 ghost use Rattle.cf_grow.specs.declared.held.Held.TheVariants.{Block as BlockPart};
-ghost use Rattle.cf_grow.specs.Held.{text_in, texts_in};
+ghost use Rattle.cf_grow.specs.Held.{text_all, text_in, texts_in};
 ghost use Rattle.cf_msg.specs.declared.msg.Msg.TheVariants.{Block as BlockMessage, Cfilter as CfilterMessage};
 ghost use Rattle.cf_msg.specs.{IsEntry, IsWithinLimits, frame_of, payload_of};
 ghost use Rattle.cf_server.specs.{AreRepliesOf, IsReplyOf, message_of, messages_of, text_of};
@@ -109,32 +109,30 @@ fn put_frame(frame: Result<Vec<u8>, NoMemory>, waiting: &mut Vec<u8>) -> Result<
     Ok(())
 }
 
-/// The parts of an answer, in their order. Contracts see them as a list. Many blocks may be asked for at once: each
-/// takes one pointer.
+/// Parts in their order. Contracts see them as a list. Many blocks may be asked for at once: each at the front takes one
+/// pointer.
 #[derive(Drop)]
-pub struct Parts {
-    first: Listed<Held>,
+pub struct HeldParts {
     blocks: Listed<HeldBlock>,
     others: Listed<Held>,
 }
 
-impl Model for Parts {
+impl Model for HeldParts {
     ghost use Rattle.std.specs.Prelude.{List, ◌++◌, map};
     ghost use Rattle.cf_grow.specs.declared.held.Held.{Held};
     ghost use Rattle.cf_grow.specs.declared.held.Held.TheVariants.{Block};
 
     ghost Value = { List Held };
 
-    ghost view = { λ s. s.first ++ (map (λ b. Block b) s.blocks ++ s.others) };
+    ghost view = { λ s. map (λ b. Block b) s.blocks ++ s.others };
 }
 
-impl Parts {
+impl HeldParts {
     // None yet.
-    fn new(alloc: Global) -> Parts
+    fn new(alloc: Global) -> HeldParts
         ensures { result ≡ [] }
     {
-        Parts {
-            first: Listed::new(alloc),
+        HeldParts {
             blocks: Listed::new(alloc),
             others: Listed::new(alloc),
         }
@@ -151,17 +149,6 @@ impl Parts {
         self.others.push(Held::Block(block))
     }
 
-    // Puts another part at the end.
-    fn push_other(&mut self, part: Held) -> Result<(), NoMemory>
-        ensures ok { OnOk result (self.new ≡ self.old ++ part ∷ []) }
-        ensures err { OnErr result (self.new ≡ self.old) }
-    {
-        if self.blocks.is_empty() && self.others.is_empty() {
-            return self.first.push(part);
-        }
-        self.others.push(part)
-    }
-
     // Puts a part at the end.
     fn push(&mut self, part: Held) -> Result<(), NoMemory>
         ensures ok { OnOk result (self.new ≡ self.old ++ part ∷ []) }
@@ -169,15 +156,8 @@ impl Parts {
     {
         match part {
             Held::Block(block) => self.push_block(block),
-            other => self.push_other(other),
+            other => self.others.push(other),
         }
-    }
-
-    // How many there are.
-    pub(crate) fn len(&self) -> usize
-        ensures { result ≡ length self.now }
-    {
-        self.first.len() + self.blocks.len() + self.others.len()
     }
 
     // Puts the bytes of the part at this place, from 0, at the end of those that wait.
@@ -190,66 +170,71 @@ impl Parts {
         requires { place < length self.now }
         ensures { OnOk result ((d : HeldPart) → waiting.new.items ≡ waiting.old.items ++ text_in (get_or self.now place d)) }
     {
-        let first = self.first.len();
+        let first = self.blocks.len();
         if place < first {
-            return self.first.as_slice()[place].put(alloc, waiting);
+            return put_frame(self.blocks.as_slice()[place].frame(alloc), waiting);
         }
-        let above = place - first;
-        if above < self.blocks.len() {
-            return put_frame(self.blocks.as_slice()[above].frame(alloc), waiting);
-        }
-        self.others.as_slice()[above - self.blocks.len()].put(alloc, waiting)
+        self.others.as_slice()[place - first].put(alloc, waiting)
     }
+}
+
+/// An answer, held: the bytes that are told first, and the parts behind them, so many.
+#[derive(Drop)]
+pub struct Parts {
+    pub(crate) told: Bytes,
+    pub(crate) rest: HeldParts,
+    pub(crate) count: usize,
+    ghost whole: { count ≡ length rest },
 }
 
 // The frame of a message, at the end.
 #[tactic(auto, using(crate::proofs::Holding::held_message))]
-fn hold_message(alloc: Global, msg: &Msg, out: &mut Parts) -> Result<(), NoMemory>
+fn hold_message(alloc: Global, msg: &Msg, told: &mut Vec<u8>) -> Result<(), NoMemory>
     requires limits { IsWithinLimits msg.now }
     requires fits { length (payload_of msg.now) ≤ 4000000 }
-    ensures { OnOk result (texts_in out.new ≡ texts_in out.old ++ text_of (msg.now ∷ [])) }
+    ensures { OnOk result (told.new.items ≡ told.old.items ++ text_of (msg.now ∷ [])) }
 {
     let bytes = message_bytes(alloc, msg)?;
-    out.push(Held::Bytes(Bytes::from_vec(bytes)))?;
+    told.extend_from_slice(&bytes)?;
     Ok(())
 }
 
 // The announcement of a tip.
 #[tactic(auto, using(crate::proofs::Holding::announcement_fits, crate::proofs::Holding::held_announcement))]
-fn hold_announcement(alloc: Global, hash: Hash32, out: &mut Parts) -> Result<(), NoMemory>
-    ensures { OnOk result (texts_in out.new ≡ texts_in out.old ++ text_of (announcement hash.0 ∷ [])) }
+fn hold_announcement(alloc: Global, hash: Hash32, told: &mut Vec<u8>) -> Result<(), NoMemory>
+    ensures { OnOk result (told.new.items ≡ told.old.items ++ text_of (announcement hash.0 ∷ [])) }
 {
     let mut entries = Entries::new(alloc);
     entries.push(Inventory {
         kind: BLOCK_KIND,
         hash,
     })?;
-    hold_message(alloc, &Msg::Inv(entries), out)?;
+    hold_message(alloc, &Msg::Inv(entries), told)?;
     Ok(())
 }
 
 // That of the tip that is told first.
 #[tactic(auto, using(crate::proofs::Holding::held_none))]
-fn hold_news(alloc: Global, news: Option<Hash32>, out: &mut Parts) -> Result<(), NoMemory>
-    ensures { OnOk result (texts_in out.new ≡ texts_in out.old ++ text_of (news_in news)) }
+fn hold_news(alloc: Global, news: Option<Hash32>, told: &mut Vec<u8>) -> Result<(), NoMemory>
+    ensures { OnOk result (told.new.items ≡ told.old.items ++ text_of (news_in news)) }
 {
     match news {
         None => Ok(()),
-        Some(hash) => hold_announcement(alloc, hash, out),
+        Some(hash) => hold_announcement(alloc, hash, told),
     }
 }
 
 // The request for the blocks that are asked for.
 #[tactic(auto, using(crate::proofs::Holding::asked_so))]
-fn hold_wants(alloc: Global, wants: Entries, out: &mut Parts) -> Result<(), NoMemory>
+fn hold_wants(alloc: Global, wants: Entries, told: &mut Vec<u8>) -> Result<(), NoMemory>
     requires few { length wants ≤ 50000 }
     requires entries { AllByRecursion IsEntry wants }
-    ensures { OnOk result (texts_in out.new ≡ texts_in out.old ++ text_of (asked_for wants)) }
+    ensures { OnOk result (told.new.items ≡ told.old.items ++ text_of (asked_for wants)) }
 {
     if wants.is_empty() {
         return Ok(());
     }
-    hold_message(alloc, &Msg::GetData(wants), out)?;
+    hold_message(alloc, &Msg::GetData(wants), told)?;
     Ok(())
 }
 
@@ -305,23 +290,23 @@ fn hold_reply(
     }
 }
 
-// Replies, at the end.
+// Replies, one behind another.
 fn hold_replies(
     alloc: Global,
     index: &Index,
     served: &Serving,
     replies: &[Reply],
-    out: &mut Parts,
-) -> Result<(), NoMemory>
+) -> Result<HeldParts, NoMemory>
     requires { AreRepliesOf index.now replies.now }
-    ensures { OnOk result
-        (texts_in out.new ≡ texts_in out.old ++ text_of (messages_of served.now index.now replies.now)) }
+    ensures told { IfOk result (λ parts. texts_in parts ≡ text_of (messages_of served.now index.now replies.now)) }
+    ensures count { IfOk result (λ parts. length parts ≡ length replies.now) }
 {
+    let mut out = HeldParts::new(alloc);
     for reply in replies {
         let part = hold_reply(alloc, index, served, *reply)?;
         out.push(part)?;
     }
-    Ok(())
+    Ok(out)
 }
 
 /// An answer, held.
@@ -335,11 +320,16 @@ pub(crate) fn hold_answer(
     requires each { AreRepliesOf index.now answer.plain }
     requires few { length answer.wants ≤ 50000 }
     requires entries { AllByRecursion IsEntry answer.wants }
-    ensures { IfOk result (λ parts. texts_in parts ≡ text_of (messages_in served.now index.now answer)) }
+    ensures { IfOk result (λ parts. text_all parts ≡ text_of (messages_in served.now index.now answer)) }
 {
-    let mut parts = Parts::new(alloc);
-    hold_news(alloc, answer.news, &mut parts)?;
-    hold_wants(alloc, answer.wants, &mut parts)?;
-    hold_replies(alloc, index, served, answer.plain.as_slice(), &mut parts)?;
-    Ok(parts)
+    let Answer { news, wants, plain } = answer;
+    let mut told = Vec::new(alloc);
+    hold_news(alloc, news, &mut told)?;
+    hold_wants(alloc, wants, &mut told)?;
+    let rest = hold_replies(alloc, index, served, plain.as_slice())?;
+    Ok(Parts {
+        told: Bytes::from_vec(told),
+        rest,
+        count: plain.len(),
+    })
 }

@@ -17,7 +17,7 @@ mod taking;
 pub use ending::Ending;
 pub use growing::GrowingServer;
 pub use grown::{Grown, MOST_JOINED, Taken, take_locked};
-pub use held::{Held, HeldBlock, HeldFilter, Parts};
+pub use held::{Held, HeldBlock, HeldFilter, HeldParts, Parts};
 pub use joins::{Joins, Nobody};
 pub use mark::{ServedMark, Shrunk, TakeFail, Tip};
 pub use serve::serve_grown;

@@ -1,6 +1,6 @@
 //! Writing what a message is answered with.
 ghost use Rattle.std.specs.Prelude.{◌≡◌};
-ghost use Rattle.cf_grow.specs.Held.{texts_in};
+ghost use Rattle.cf_grow.specs.Held.{text_all};
 ghost use Rattle.cf_server.specs.{CountsWrites, Sends};
 
 use crate::held::Parts;
@@ -15,17 +15,18 @@ const TOGETHER: usize = 16_384;
 pub(crate) fn send_parts<C: Duplex>(
     alloc: Global,
     conn: &mut C,
-    parts: &Parts,
+    parts: Parts,
 ) -> Result<(), ServeEnd>
-    ensures sends { Sends result (C.written conn.old) (C.written conn.new) (texts_in parts.now) }
+    ensures sends { Sends result (C.written conn.old) (C.written conn.new) (text_all parts) }
     ensures count { CountsWrites result (C.Sink.faults conn.old) (C.Sink.faults conn.new) }
     ensures left { C.left conn.new ≡ C.left conn.old }
     ensures ended { C.ended conn.new ≡ C.ended conn.old }
     ensures read_faults { C.Source.faults conn.new ≡ C.Source.faults conn.old }
 {
-    let mut waiting = Vec::new(alloc);
-    for place in 0..parts.len() {
-        parts.put(alloc, place, &mut waiting)?;
+    let Parts { told, rest, count } = parts;
+    let mut waiting = told.into_vec();
+    for place in 0..count {
+        rest.put(alloc, place, &mut waiting)?;
         if waiting.len() >= TOGETHER {
             flush(conn, &mut waiting)?;
         }

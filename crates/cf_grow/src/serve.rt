@@ -70,7 +70,7 @@ fn answer_frame<R: Wait, J: Joins, C: Duplex>(
     };
     let taken = take_locked(rt, alloc, grown, mark, frame, msg)?;
     tell(joins, taken.joined);
-    send_parts(alloc, conn, &taken.parts)?;
+    send_parts(alloc, conn, taken.parts)?;
     Ok(())
 }
 
