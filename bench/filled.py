@@ -22,7 +22,7 @@ import time
 from hashlib import sha256
 
 from conversation import MAGIC, THEIR_VERSION, compact, double, frame, of_range
-from growing import entry, large_block, listed, made, mined
+from growing import entry, listed, made, mined
 from load import ROOT, Run, address_of, connected
 from made_chain import coinbase
 
@@ -203,8 +203,11 @@ def askers(program, file, names):
     return [f"a ping waited more than {WAIT} s"] if max(waits) > WAIT else []
 
 
-def whole(parts):
-    return b"".join(part * times for part, times in parts)
+def large_block(below, height):
+    """A block of SIZE bytes, most of them in one script."""
+    front = coinbase(7, height)[:-(1 + 8 + 5 + 4)] + b"\1" + bytes(8)
+    zeros = SIZE - 81 - len(front) - 5 - 4
+    return mined(below, [front + compact(zeros) + bytes(zeros) + bytes(4)])
 
 
 def blocks(program, file, names, top):
@@ -213,7 +216,7 @@ def blocks(program, file, names, top):
         before, began = server.size(), time.monotonic()
         with server.peer() as peer:
             for number in range(1, LARGE + 1):
-                top = whole(large_block(top, SIZE))
+                top = large_block(top, BLOCKS + number)
                 ping = struct.pack("<Q", number)
                 peer.sendall(frame("block", top) + frame("ping", ping))
                 while take(peer, 1) != frame("pong", ping):

@@ -34,8 +34,8 @@ impl<R: Wait + Copy, J: Joins + Copy> Model for GrowingServer<R, J> {
 }
 
 impl<R: Wait + Copy, J: Joins + Copy> GrowingServer<R, J> {
-    /// A server that begins with this chain, which so many bytes of blocks may join. Its `version` tells the time in
-    /// seconds since 1970 and the nonce.
+    /// A server that begins with this chain, whose coins are found now, and which so many bytes of blocks may join. Its
+    /// `version` tells the time in seconds since 1970 and the nonce.
     pub fn new(
         rt: R,
         alloc: Global,
@@ -48,6 +48,8 @@ impl<R: Wait + Copy, J: Joins + Copy> GrowingServer<R, J> {
         ensures { IfOk result (λ s. s ≡ record { moment = moment; nonce = nonce; tip = tip_of index }) }
     {
         let first = Tip::of(&index);
+        let mut index = index;
+        index.find_coins(alloc)?;
         let grown = Arc::new(alloc, Mutex::new(Grown::new(alloc, index, room)))?;
         Ok(GrowingServer {
             rt,

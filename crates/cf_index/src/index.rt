@@ -273,6 +273,15 @@ impl Index {
         Ok(())
     }
 
+    /// Finds the chain's coins, by which `add` judges, so that the first call needn't.
+    pub fn find_coins(&mut self, alloc: Global) -> Result<(), NoMemory>
+        ensures { self.new ≡ self.old }
+    {
+        let coins = take_coins(alloc, &mut self.coins, self.blocks.as_slice())?;
+        self.coins = Some(coins);
+        Ok(())
+    }
+
     // The hash of the highest block.
     fn top_hash(&self) -> Hash32
         ensures { result.0 ≡ tip_hash (headers_of self.now) }
