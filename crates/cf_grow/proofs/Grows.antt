@@ -33,3 +33,6 @@ brings_none blocks b f e brings bad other is =
 pub stays_refused : (blocks : List Block) (b : Block) (f : Frame) → BringsNone blocks f → message_of f ≡ Ok (BlockMessage b)
     → blocks ≡ grown fits_on blocks true (BlockMessage b)
 stays_refused blocks b f none brings = sym (ap (λ (fits : Bool). if fits then blocks ++ b ∷ [] else blocks) (none b brings))
+
+-- whether a block is put on
+pub ruleset put_so = (grows_by, stays_by, brings_none)

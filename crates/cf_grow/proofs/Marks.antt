@@ -142,3 +142,6 @@ first_lost blocks mark s lost seen found = inr (seen, found, λ same. lost (sym 
 
 -- where the mark goes
 pub ruleset moves = (moves_first, moves_up, moves_not)
+
+-- what is answered, and where the mark goes, or why it is refused
+pub ruleset taken_so = (answer_is, mark_moved, mark_lost, first_lost)

@@ -98,7 +98,7 @@ impl Grown {
 
     // Puts the block of a frame on the chain, where it may stand there. Where the frame's bytes have no room no memory
     // is found.
-    #[tactic(auto, using(crate::proofs::Grows::grows_by, crate::proofs::Grows::stays_by, crate::proofs::Grows::brings_none))]
+    #[tactic(auto, using(crate::proofs::Grows::put_so))]
     fn put(&mut self, alloc: Global, frame: Frame, block: Block) -> Result<(), NoMemory>
         requires block { IsBlock block }
         requires brings { message_in frame ≡ Ok (BlockMessage block) }
@@ -157,8 +157,8 @@ impl Grown {
     }
 
     /// One step: the chain as it stands answers the message of a frame, and then the block that it brings is put on,
-    /// where it may stand there. It is refused where the chain hasn't the mark's hash at its height, or no longer has its
-    /// first tip, and where no memory is found, or no room is left for such a block; after that nothing has changed.
+    /// where it may stand there. It is refused where the chain hasn't the mark's hash at its height, or no longer has
+    /// its first tip, and where no memory is found, or no room for a block; after that nothing has changed.
     pub fn take(
         &mut self,
         alloc: Global,
@@ -207,9 +207,10 @@ fn height_above(before: u32, now: u32) -> Option<u32>
 }
 
 /// One step under the lock: whatever others have put on the chain, the answer is that of a good chain on which the mark
-/// stands, and which still has its first tip; the height is told of a block that joins that chain. It is refused only by
-/// a good chain that hasn't the mark's hash at its height, or no longer has its first tip, with both hashes, and where no
-/// memory is found, or no room for a block. The lock is let go with the return, and what is answered needs it no more.
+/// stands, and which still has its first tip; the height is told of a block that joins that chain. It is refused only
+/// by a good chain that hasn't the mark's hash at its height, or no longer has its first tip, with both hashes, and
+/// where no memory is found, or no room for a block. The lock is let go with the return, and what is answered needs it
+/// no more.
 pub fn take_locked<R: Wait>(
     rt: &R,
     alloc: Global,

@@ -109,8 +109,8 @@ fn put_frame(frame: Result<Vec<u8>, NoMemory>, waiting: &mut Vec<u8>) -> Result<
     Ok(())
 }
 
-/// Parts in their order. Contracts see them as a list. Many blocks may be asked for at once: each at the front takes one
-/// pointer.
+/// Parts in their order. Contracts see them as a list. Many blocks may be asked for at once: each at the front takes
+/// one pointer.
 #[derive(Drop)]
 pub struct HeldParts {
     blocks: Listed<HeldBlock>,
@@ -168,7 +168,8 @@ impl HeldParts {
         waiting: &mut Vec<u8>,
     ) -> Result<(), NoMemory>
         requires { place < length self.now }
-        ensures { OnOk result ((d : HeldPart) → waiting.new.items ≡ waiting.old.items ++ text_in (get_or self.now place d)) }
+        ensures { OnOk result
+            ((d : HeldPart) → waiting.new.items ≡ waiting.old.items ++ text_in (get_or self.now place d)) }
     {
         let first = self.blocks.len();
         if place < first {

@@ -156,9 +156,9 @@ fn take_piece<R: Wait, J: Joins, C: Duplex>(
 }
 
 /// Serves a connection from a chain that grows and began with this tip: message by message the answer is that of a good
-/// chain that has it, and on which the mark stands that the message before has left. It ends as from a chain that stands
-/// still, or where the chain is another than was told or than it began with, with the hash of then and the one there. Nothing is written while the lock is held. Each block that
-/// joins is told of, once the lock is let go.
+/// chain that has it, and on which the mark stands that the message before has left. It ends as from a chain that
+/// stands still, or where the chain is another than was told or than it began with, with the hash of then and the one
+/// there. Nothing is written while the lock is held. Each block that joins is told of, once the lock is let go.
 pub fn serve_grown<R: Wait, J: Joins, C: Duplex>(
     rt: &R,
     alloc: Global,

@@ -144,9 +144,9 @@ fn move_mark(index: &Index, mark: &mut ServedMark, served: Serving)
 }
 
 /// Answers a message by the chain that the index holds, the tip first where the connection wasn't told of it, and moves
-/// the mark. It is refused exactly where the chain hasn't the mark's hash at its height, or no longer has its first tip.
-/// After a refusal the mark is unchanged.
-#[tactic(auto, using(crate::proofs::Marks::answer_is, crate::proofs::Marks::mark_moved, crate::proofs::Marks::mark_lost, crate::proofs::Marks::first_lost))]
+/// the mark. It is refused exactly where the chain hasn't the mark's hash at its height, or no longer has its first
+/// tip. After a refusal the mark is unchanged.
+#[tactic(auto, using(crate::proofs::Marks::taken_so))]
 pub(crate) fn take_at(
     alloc: Global,
     index: &Index,
