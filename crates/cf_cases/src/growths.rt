@@ -5,7 +5,7 @@ ghost use Rattle.cf_conn.specs.{Writes};
 use crate::conversations::{MOMENT, NONCE, conn_in, index_in, shown as bytes_shown};
 use cf_bytes::{Failed, Sink};
 use cf_conn::{Duplex, MemoryConn, MemoryEnd, Source};
-use cf_grow::{Ending, Grown, Nobody, serve_grown};
+use cf_grow::{Ending, Grown, MOST_JOINED, Nobody, Tip, serve_grown};
 use cf_rows::Host;
 use std::alloc::Global;
 use std::marker::Model;
@@ -21,6 +21,7 @@ struct Around<R: Wait + Copy + Drop> {
     rt: R,
     alloc: Global,
     grown: Arc<Mutex<Grown>, Global>,
+    first: Tip,
     conn: MemoryConn,
     within: MemoryConn,
     // How many reads come before.
@@ -54,6 +55,7 @@ impl<R: Wait + Copy + Drop> Around<R> {
                 &mut self.within,
                 MOMENT,
                 NONCE,
+                self.first,
             );
             self.how = Some(ending);
         }
@@ -112,14 +114,16 @@ fn shown(alloc: Global, how: &Option<Ending>, conn: &MemoryConn) -> Option<Strin
     }
 }
 
-// A chain that grows on the made one that a text tells.
+// A chain that grows on the made one that a text tells, and that one's tip.
 fn grown_in<R: Threads + Sync>(
     rt: &R,
     alloc: Global,
     chain: &str,
-) -> Option<Arc<Mutex<Grown>, Global>> {
+) -> Option<(Arc<Mutex<Grown>, Global>, Tip)> {
     let index = index_in(rt, alloc, chain)?;
-    Arc::new(alloc, Mutex::new(Grown::new(index))).ok()
+    let first = Tip::of(&index);
+    let grown = Arc::new(alloc, Mutex::new(Grown::new(alloc, index, MOST_JOINED))).ok()?;
+    Some((grown, first))
 }
 
 // Both connections of a row.
@@ -127,6 +131,7 @@ fn around_in<R: Wait + Copy + Drop>(
     rt: R,
     alloc: Global,
     grown: &Arc<Mutex<Grown>, Global>,
+    first: Tip,
     row: &str,
 ) -> Option<Around<R>> {
     let (most, rest) = row.split_once(' ')?;
@@ -141,6 +146,7 @@ fn around_in<R: Wait + Copy + Drop>(
         rt,
         alloc,
         grown,
+        first,
         conn,
         within,
         before,
@@ -163,8 +169,8 @@ fn both_shown<R: Wait + Copy + Drop>(
 /// reads of the second have come.
 pub(crate) fn answer<R: Host>(rt: R, alloc: Global, row: &str) -> Option<String> {
     let (chain, rest) = row.split_once(' ')?;
-    let grown = grown_in(&rt, alloc, chain)?;
-    let mut conn = around_in(rt, alloc, &grown, rest)?;
-    let how = serve_grown(&rt, alloc, &grown, &Nobody, &mut conn, MOMENT, NONCE);
+    let (grown, first) = grown_in(&rt, alloc, chain)?;
+    let mut conn = around_in(rt, alloc, &grown, first, rest)?;
+    let how = serve_grown(&rt, alloc, &grown, &Nobody, &mut conn, MOMENT, NONCE, first);
     both_shown(alloc, &conn, how)
 }

@@ -15,6 +15,7 @@ use Rattle.cf_bytes.specs.declared.memory.Refused.TheVariants.{No, NoMemory as O
 use Rattle.cf_bytes.specs.declared.outside.Failed.{Failed}
 use Rattle.cf_grow.specs.Service.{IsServedBy}
 use Rattle.cf_grow.specs.GrowingService.{IsServedWhileGrowing}
+use Rattle.cf_grow.specs.Standing.{tip_of}
 use Rattle.cf_answers.specs.declared.status.Status.{Status}
 use Rattle.cf_answers.specs.declared.status.Status.TheVariants.{Done, NoMemory, BadFile, FileFault, LinkFault}
 use Rattle.cf_answers.specs.Statuses.{was_refused}
@@ -23,11 +24,11 @@ use Rattle.cf_answers.specs.Statuses.{was_refused}
 abbrev pub listening : LinkTold → List ℕ → LinkTold
 listening was address = record was { addresses = longer_by was.addresses (address ∷ []) }
 
--- how a server serves each connection: by the chain that was loaded, or each message by a good chain on which stands what it was told last; these blocks
--- aren't named then
+-- how a server serves each connection: by the chain that was loaded, or each message by a good chain that has the tip of these blocks at its height, and on
+-- which stands what was told last
 abbrev pub served_by : Bool → List Block → ℤ → ℕ → ConnTold → ℕ → ConnTold → Type 0
 served_by false blocks moment nonce = IsServedBy (record { blocks = blocks; moment = moment; nonce = nonce })
-served_by true blocks moment nonce = IsServedWhileGrowing (record { moment = moment; nonce = nonce })
+served_by true blocks moment nonce = IsServedWhileGrowing (record { moment = moment; nonce = nonce; tip = tip_of blocks })
 
 -- It listened at the address. Then connections were accepted, at most so many, and each was given back, in the order of accepting, served so.
 abbrev pub ServesAt : (ConnTold → ℕ → ConnTold → Type 0) → List ℕ → ℕ → LinkTold → LinkTold → Type 0
@@ -44,7 +45,7 @@ ServesChain LinkFault served address count was now = MayServe served address cou
 ServesChain NoMemory served address count was now = MayServe served address count was now
 ServesChain status served address count was now = ⊥
 
--- the same over a good chain, which is the file's where the files tell it (of a server that grows it is said that there is one, and not that it serves that)
+-- the same over a good chain, which is the file's where the files tell it
 abbrev pub ServesFile : Bool → Status → ℤ → ℕ → Option Named → List ℕ → List ℕ → ℕ → LinkTold → LinkTold → Type 0
 ServesFile grow status moment nonce files file address count was now =
     (blocks : List Block) × IsGoodChain blocks × IfSome files (λ m. IfSome (finite.get m file) (λ bytes. blocks_at bytes ≡ Ok blocks))

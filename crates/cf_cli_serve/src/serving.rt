@@ -11,7 +11,7 @@ ghost use Rattle.cf_answers.specs.{was_refused};
 use cf_answers::Status;
 use cf_bytes::{Failed, Files, Hash32, NoMemory, Refused};
 use cf_conn::Duplex;
-use cf_grow::{GrowingServer, Joins, Server};
+use cf_grow::{GrowingServer, Joins, MOST_JOINED, Server};
 use cf_index::{CheckedChain, Index};
 use cf_link::{Link, ServeFail, Service, serve as serve_all};
 use cf_loading::load_chain;
@@ -124,7 +124,7 @@ where
     ensures fine { result ≢ Status.LinkFault → L.faults link.new ≡ L.faults link.old }
 {
     let tip = index.tip();
-    match GrowingServer::new(rt, alloc, index, joins, moment, nonce) {
+    match GrowingServer::new(rt, alloc, index, joins, MOST_JOINED, moment, nonce) {
         Ok(server) => status_of(serve_at(
             alloc,
             &server,

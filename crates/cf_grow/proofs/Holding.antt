@@ -9,10 +9,10 @@ use Rattle.cf_chain.specs.Grow.{announcement, asked_for, is_unknown, unknown_ent
 use Rattle.cf_bytes.specs.declared.hash.Hash32.{Hash32}
 use Rattle.cf_frame.specs.Frame.{spelling}
 use Rattle.cf_grow.specs.declared.held.Held.{Held}
-use Rattle.cf_grow.specs.declared.held.Held.TheVariants.{Bytes}
+use Rattle.cf_grow.specs.declared.held.Parts.{Parts}
 use Rattle.cf_grow.specs.declared.taking.Answer.{Answer}
 use Rattle.cf_grow.specs.Growing.{IsAnswerOf, messages_in, news_in}
-use Rattle.cf_grow.specs.Held.{text_in, texts_in}
+use Rattle.cf_grow.specs.Held.{text_all, text_in, texts_in}
 use Rattle.cf_msg.specs.declared.msg.Inventory.{Inventory}
 use Rattle.cf_msg.specs.declared.msg.Msg.{Msg}
 use Rattle.cf_msg.specs.declared.msg.Msg.TheVariants.{GetData, Inv}
@@ -28,28 +28,26 @@ use Rattle.cf_server.proofs.Texts.{text-append, text-cons, text-nil}
 one_text : (m : Msg) → text_of (m ∷ []) ≡ spelling (frame_of m)
 one_text m = text-cons m [] ∙ ap (λ t. spelling (frame_of m) ++ t) text-nil ∙ append-nil (spelling (frame_of m))
 
--- one part more
-pub held_more : (old new : List Held) (part : Held) (text : List ℕ) → new ≡ old ++ part ∷ [] → text_in part ≡ text
-    → texts_in new ≡ texts_in old ++ text
-held_more old new part text is told =
-    ap texts_in is ∙ flat_map-append text_in old (part ∷ [])
-    ∙ ap (λ (t : List ℕ). texts_in old ++ t) (append-nil (text_in part) ∙ told)
-
-pub held_message : (old new : List Held) (m : Msg) (bytes : List ℕ) → new ≡ old ++ Bytes bytes ∷ []
-    → bytes ≡ spelling (frame_of m)
-    → texts_in new ≡ texts_in old ++ text_of (m ∷ [])
-held_message old new m bytes is told = held_more old new (Bytes bytes) (text_of (m ∷ [])) is (told ∙ sym (one_text m))
+-- one message more is told
+pub held_message : (old new : List ℕ) (m : Msg) (bytes : List ℕ) → new ≡ old ++ bytes → bytes ≡ spelling (frame_of m)
+    → new ≡ old ++ text_of (m ∷ [])
+held_message old new m bytes is told = is ∙ ap (λ (t : List ℕ). old ++ t) (told ∙ sym (one_text m))
 
 -- nothing more
-pub held_none : (old : List Held) → texts_in old ≡ texts_in old ++ text_of []
-held_none old = sym (ap (λ (t : List ℕ). texts_in old ++ t) text-nil ∙ append-nil (texts_in old))
+pub held_none : (old : List ℕ) → old ≡ old ++ text_of []
+held_none old = sym (ap (λ (t : List ℕ). old ++ t) text-nil ∙ append-nil old)
+
+-- no parts yet
+pub parts_none : (served : Serving) (blocks : List Block) (replies : List Reply) (none : List Held) → none ≡ []
+    → texts_in none ≡ text_of (messages_of served blocks (take 0 replies))
+parts_none served blocks replies none is = ap texts_in is ∙ sym text-nil
 
 -- the replies, one by one
-pub held_next : (served : Serving) (blocks : List Block) (replies : List Reply) (i : ℕ) (d : Reply) (first old new : List Held) (part : Held) → i < length replies
-    → texts_in old ≡ texts_in first ++ text_of (messages_of served blocks (take i replies))
+pub held_next : (served : Serving) (blocks : List Block) (replies : List Reply) (i : ℕ) (d : Reply) (old new : List Held) (part : Held) → i < length replies
+    → texts_in old ≡ text_of (messages_of served blocks (take i replies))
     → new ≡ old ++ part ∷ [] → text_in part ≡ spelling (frame_of (message_of served blocks (get_or replies i d)))
-    → texts_in new ≡ texts_in first ++ text_of (messages_of served blocks (take (i + 1) replies))
-held_next served blocks replies i d first old new part lt before is told =
+    → texts_in new ≡ text_of (messages_of served blocks (take (i + 1) replies))
+held_next served blocks replies i d old new part lt before is told =
     let reply : Reply = get_or replies i d in
     let front : List ℕ = text_of (messages_of served blocks (take i replies)) in
     let frame : List ℕ = spelling (frame_of (message_of served blocks reply)) in
@@ -58,21 +56,25 @@ held_next served blocks replies i d first old new part lt before is told =
     ∙ ap text_of (map-append (message_of served blocks) (take i replies) (reply ∷ []))
     ∙ text-append (messages_of served blocks (take i replies)) (message_of served blocks reply ∷ [])
     ∙ ap (λ (t : List ℕ). front ++ t) (one_text (message_of served blocks reply)) in
-    held_more old new part frame is told ∙ ap (λ (t : List ℕ). t ++ frame) before
-    ∙ append_assoc (texts_in first) front frame
-    ∙ ap (λ (t : List ℕ). texts_in first ++ t) (sym both)
+    ap texts_in is ∙ flat_map-append text_in old (part ∷ [])
+    ∙ ap (λ (t : List ℕ). texts_in old ++ t) (append-nil (text_in part) ∙ told)
+    ∙ ap (λ (t : List ℕ). t ++ frame) before ∙ sym both
 
--- all three parts of an answer
-pub held_all : (served : Serving) (blocks : List Block) (a : Answer) (none one two three : List Held) → none ≡ []
-    → texts_in one ≡ texts_in none ++ text_of (news_in a.news)
-    → texts_in two ≡ texts_in one ++ text_of (asked_for a.wants)
-    → texts_in three ≡ texts_in two ++ text_of (messages_of served blocks a.plain)
-    → texts_in three ≡ text_of (messages_in served blocks a)
-held_all served blocks a none one two three e p q r =
+-- one part more
+pub longer_by_one : (old new : List Held) (part : Held) (n : ℕ) → new ≡ old ++ part ∷ [] → length old ≡ n → length new ≡ n + 1
+longer_by_one old new part n is long = omega (arith, ap length is, length-append old (part ∷ []), long)
+
+-- all of an answer
+pub held_all : (served : Serving) (blocks : List Block) (a : Answer) (none one two told : List ℕ) (rest : List Held) → none ≡ []
+    → one ≡ none ++ text_of (news_in a.news) → two ≡ one ++ text_of (asked_for a.wants) → told ≡ two
+    → texts_in rest ≡ text_of (messages_of served blocks a.plain)
+    → told ++ texts_in rest ≡ text_of (messages_in served blocks a)
+held_all served blocks a none one two told rest e p q same r =
     let news : List ℕ = text_of (news_in a.news) in
     let wants : List ℕ = text_of (asked_for a.wants) in
     let plain : List ℕ = text_of (messages_of served blocks a.plain) in
-    r ∙ ap (λ (t : List ℕ). t ++ plain) (q ∙ ap (λ (t : List ℕ). t ++ wants) (p ∙ ap (λ (x : List Held). texts_in x ++ news) e))
+    let first : told ≡ news ++ wants = same ∙ q ∙ ap (λ (t : List ℕ). t ++ wants) (p ∙ ap (λ (t : List ℕ). t ++ news) e) in
+    ap (λ (t : List ℕ). t ++ texts_in rest) first ∙ ap (λ (t : List ℕ). (news ++ wants) ++ t) r
     ∙ append_assoc news wants plain
     ∙ ap (λ (t : List ℕ). news ++ t) (sym (text-append (asked_for a.wants) (messages_of served blocks a.plain)))
     ∙ sym (text-append (news_in a.news) (asked_for a.wants ++ messages_of served blocks a.plain))
@@ -132,29 +134,27 @@ announcement_fits kind hash none entries low long empty is =
     (sym (is ∙ ap (λ (es : List Inventory). es ++ (record { kind = kind; hash = hash }) ∷ []) empty))
     (payload_fits (Inv ((record { kind = kind; hash = hash }) ∷ [])) (omega arith, (record { kind = low; hash = long }, tt)) tt)
 
-pub held_announcement : (old new : List Held) (hash : Hash32) (none entries : List Inventory) → none ≡ [] → entries ≡ none ++ (record { kind = 2; hash = hash }) ∷ []
-    → texts_in new ≡ texts_in old ++ text_of (Inv entries ∷ []) → texts_in new ≡ texts_in old ++ text_of (announcement hash.0 ∷ [])
+pub held_announcement : (old new : List ℕ) (hash : Hash32) (none entries : List Inventory) → none ≡ [] → entries ≡ none ++ (record { kind = 2; hash = hash }) ∷ []
+    → new ≡ old ++ text_of (Inv entries ∷ []) → new ≡ old ++ text_of (announcement hash.0 ∷ [])
 held_announcement old new hash none entries empty is told =
     told
-    ∙ ap (λ (es : List Inventory). texts_in old ++ text_of (Inv es ∷ [])) (is ∙ ap (λ (es : List Inventory). es ++ (record { kind = 2; hash = hash }) ∷ []) empty)
+    ∙ ap (λ (es : List Inventory). old ++ text_of (Inv es ∷ [])) (is ∙ ap (λ (es : List Inventory). es ++ (record { kind = 2; hash = hash }) ∷ []) empty)
 
 -- ---- what is asked for
 
-pub held_asked_none : (old : List Held) (wants : List Inventory) → length wants ≡ 0
-    → texts_in old ≡ texts_in old ++ text_of (asked_for wants)
+pub held_asked_none : (old : List ℕ) (wants : List Inventory) → length wants ≡ 0 → old ≡ old ++ text_of (asked_for wants)
 held_asked_none old [] none = held_none old
 held_asked_none old (e ∷ es) none = absurd (omega (arith, none))
 
-pub held_asked : (old new : List Held) (wants : List Inventory) → (length wants ≡ 0 → ⊥)
-    → texts_in new ≡ texts_in old ++ text_of (GetData wants ∷ [])
-    → texts_in new ≡ texts_in old ++ text_of (asked_for wants)
+pub held_asked : (old new : List ℕ) (wants : List Inventory) → (length wants ≡ 0 → ⊥) → new ≡ old ++ text_of (GetData wants ∷ [])
+    → new ≡ old ++ text_of (asked_for wants)
 held_asked old new [] some is = absurd (some refl)
 held_asked old new (e ∷ es) some is = is
 
 -- what is held is what is answered
-pub held_told : (served : Serving) (blocks : List Block) (a : Answer) (parts : List Held) (messages : List Msg)
-    → IsAnswerOf served blocks a messages → texts_in parts ≡ text_of (messages_in served blocks a)
-    → texts_in parts ≡ text_of messages
+pub held_told : (served : Serving) (blocks : List Block) (a : Answer) (parts : Parts) (messages : List Msg)
+    → IsAnswerOf served blocks a messages → text_all parts ≡ text_of (messages_in served blocks a)
+    → text_all parts ≡ text_of messages
 held_told served blocks a parts messages answer is = is ∙ ap text_of answer.told
 
 -- what is wanted has a spelling, and what is held is what is answered

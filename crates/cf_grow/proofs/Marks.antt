@@ -1,5 +1,5 @@
 -- What a growing chain tells a connection.
-use Rattle.std.proofs.Common.{◌≡◌, ℕ, ◌<◌, ◌≤◌, Bool, true, false, List, [], ◌∷◌, ◌++◌, length, Option, Some, None, refl, sym, ap, ◌∙◌, subst, arith, lt-ltb, le-ltb, slice_get}
+use Rattle.std.proofs.Common.{◌≡◌, ℕ, ◌<◌, ◌≤◌, Bool, true, false, inl, inr, List, [], ◌∷◌, ◌++◌, length, Option, Some, None, refl, sym, ap, ◌∙◌, subst, arith, lt-ltb, le-ltb, slice_get}
 use Rattle.std.specs.Prelude.{option_map, if◌then◌else◌, ◌||◌}
 use Rattle.std.proofs.lemmas.Bool.{false≢true}
 use Rattle.cf_bytes.specs.declared.hash.Hash32.{Hash32}
@@ -14,11 +14,11 @@ use Rattle.cf_msg.specs.Message.{is_version}
 use Rattle.cf_server.specs.declared.answering.Serving.{Serving}
 use Rattle.cf_grow.specs.declared.taking.Answer.{Answer}
 use Rattle.cf_grow.specs.declared.mark.ServedMark.{ServedMark}
-use Rattle.cf_grow.specs.declared.mark.TakeFail.{TakeFail}
-use Rattle.cf_grow.specs.declared.mark.TakeFail.TheVariants.{Shrunk, NoMemory}
+use Rattle.cf_grow.specs.declared.mark.Shrunk.{Shrunk as Hashes}
+use Rattle.cf_grow.specs.declared.mark.TakeFail.TheVariants.{Shrunk}
 use Rattle.cf_server.specs.declared.reply.Reply.{Reply}
-use Rattle.cf_grow.specs.Growing.{told_by, moved, news_in, IsAnswerOf, IsRefusal, IsAfterVersion}
-use Rattle.cf_grow.specs.Standing.{hash_in}
+use Rattle.cf_grow.specs.Growing.{told_by, moved, news_in, HasMark, IsAnswerOf, IsRefusal}
+use Rattle.cf_grow.specs.Standing.{Keeps, hash_in}
 use Rattle.cf_server.specs.Replies.{messages_of, AreRepliesOf, Adds}
 
 abbrev hash_of_bytes : List ℕ → Option Hash32
@@ -127,13 +127,21 @@ answer_is served blocks height hash m a news wants adds =
       each = subst (λ (rs : List Reply). AreRepliesOf blocks rs) (sym same) adds.each;
     }
 
--- once it is found that a mark doesn't stand, something was told
-pub after_version : (blocks : List Block) (mark : ServedMark) (e : TakeFail) → IsRefusal blocks mark e → IsAfterVersion mark e
-after_version blocks mark (Shrunk s) refuses = by_seen mark.served.seen refl where
+-- a mark that doesn't stand, which was told then
+pub mark_lost : (blocks : List Block) (mark : ServedMark) (s : Hashes) → (HasMark blocks mark → ⊥) → s.seen ≡ mark.hash → s.found ≡ hash_in blocks mark.height
+    → IsRefusal blocks mark (Shrunk s)
+mark_lost blocks mark s lost seen found = inl (by_seen mark.served.seen refl, (seen, found, λ same. lost (λ on. sym found ∙ same))) where
   by_seen : (b : Bool) → mark.served.seen ≡ b → mark.served.seen ≡ true
   by_seen true is = is
-  by_seen false is = absurd (refuses.0 (λ on. absurd (false≢true (sym is ∙ on))))
-after_version blocks mark NoMemory refuses = tt
+  by_seen false is = absurd (lost (λ on. absurd (false≢true (sym is ∙ on))))
+
+-- a first tip that doesn't
+pub first_lost : (blocks : List Block) (mark : ServedMark) (s : Hashes) → (Keeps blocks mark.first → ⊥) → s.seen ≡ mark.first.hash → s.found ≡ hash_in blocks mark.first.height
+    → IsRefusal blocks mark (Shrunk s)
+first_lost blocks mark s lost seen found = inr (seen, found, λ same. lost (sym found ∙ same))
 
 -- where the mark goes
 pub ruleset moves = (moves_first, moves_up, moves_not)
+
+-- what is answered, and where the mark goes, or why it is refused
+pub ruleset taken_so = (answer_is, mark_moved, mark_lost, first_lost)

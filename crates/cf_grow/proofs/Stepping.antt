@@ -1,25 +1,23 @@
 -- A frame is answered by one step under the lock.
-use Rattle.std.proofs.Common.{◌≡◌, ℕ, ℤ, Bool, true, false, inl, inr, List, Option, Some, Result, Ok, Err, refl, sym, ap, ◌∙◌, subst}
+use Rattle.std.proofs.Common.{◌≡◌, ℕ, Bool, true, inl, inr, List, Option, Some, Result, Ok, Err, refl, sym, ap, ◌∙◌, subst}
 use Rattle.std.specs.Prelude.{IfOk}
-use Rattle.std.proofs.lemmas.Bool.{false≢true}
 use Rattle.cf_bytes.specs.declared.hash.Hash32.{Hash32}
 use Rattle.cf_bytes.specs.declared.memory.Refused.{Refused}
 use Rattle.cf_block.specs.declared.tx.Block.{Block}
 use Rattle.cf_chain.specs.Good.{IsGoodChain}
-use Rattle.cf_chain.specs.Grow.{TipMark, TipTold, is_met}
+use Rattle.cf_chain.specs.Grow.{TipMark, TipTold}
 use Rattle.cf_frame.specs.declared.frame.Frame.{Frame}
 use Rattle.cf_frame.specs.Frame.{IsFrame}
 use Rattle.cf_bytes.specs.Cut.{IsBytes}
 use Rattle.cf_grow.specs.declared.grown.Taken.{Taken}
-use Rattle.cf_grow.specs.declared.held.Held.{Held}
 use Rattle.cf_grow.specs.declared.ending.Ending.TheVariants.{Served}
 use Rattle.cf_grow.specs.declared.mark.ServedMark.{ServedMark}
 use Rattle.cf_grow.specs.declared.mark.Shrunk.{Shrunk as Hashes}
 use Rattle.cf_grow.specs.declared.mark.TakeFail.{TakeFail}
 use Rattle.cf_grow.specs.declared.mark.TakeFail.TheVariants.{Shrunk as NotThere, NoMemory as OutOfMemory}
-use Rattle.cf_grow.specs.Growing.{told_by, mark_of, IsRefused, IsAfterVersion, IsStep}
-use Rattle.cf_grow.specs.Standing.{hash_in, StandsOn}
-use Rattle.cf_grow.specs.Held.{texts_in}
+use Rattle.cf_grow.specs.Growing.{begun_in, told_by, mark_of, IsRefusal, IsRefused, IsStep, Misses}
+use Rattle.cf_grow.specs.Standing.{Begun, hash_in, StandsOn}
+use Rattle.cf_grow.specs.Held.{text_all}
 use Rattle.cf_grow.specs.Serving.{Answers, Answered, AnswersFrame, IsShrunk, ending_of}
 use Rattle.cf_msg.specs.declared.msg.Msg.{Msg}
 use Rattle.cf_msg.specs.declared.msg.Malformed.{Malformed}
@@ -41,44 +39,55 @@ stands_by : (blocks : List Block) (seen : Bool) (height : ℕ) (hash : Hash32) �
 stands_by blocks true height hash has = has refl
 stands_by blocks false height hash has = tt
 
--- a step answers the message by a good chain on which the mark stands
-pub step_answers : (mark now : ServedMark) (m : Msg) (taken : Taken) (sent : List Held) → sent ≡ taken.parts → IsStep mark now m taken
-    → Answers mark.served.time mark.served.nonce (mark_of mark) m (mark_of now) (texts_in sent)
-step_answers mark now m taken sent same step = record {
+-- a step answers the message by a good chain that has the first tip, and on which the mark stands
+pub step_answers : (mark now : ServedMark) (m : Msg) (taken : Taken) → IsStep mark now m taken
+    → Answers (begun_in mark) mark.served.nonce (mark_of mark) m (mark_of now) (text_all taken.parts)
+step_answers mark now m taken step = record {
   chain = step.chain;
   good = step.good;
+  keeps = step.keeps;
   stands = stands_by step.chain mark.served.seen mark.height mark.hash step.has;
-  written = ap texts_in same ∙ step.answer;
+  written = step.answer;
   moved = step.next;
 }
 
 -- a refusal tells of a good chain that hasn't what was told
-shrunk_by : (seen : Bool) (height : ℕ) (hash : Hash32) (s : Hashes) (blocks : List Block) → IsGoodChain blocks
-    → ((seen ≡ true → hash_in blocks height ≡ Some hash) → ⊥) → s.seen ≡ hash → s.found ≡ hash_in blocks height
-    → IsShrunk (told_by seen height hash) s
-shrunk_by true height hash s blocks good misses told found = record {
+shrunk_by : (now : Begun) (seen : Bool) (height : ℕ) (hash : Hash32) (s : Hashes) (blocks : List Block) → IsGoodChain blocks
+    → seen ≡ true → Misses blocks height hash s → IsShrunk now (told_by seen height hash) s
+shrunk_by now seen height hash s blocks good met misses = record {
   chain = blocks;
   good = good;
   height = height;
-  told = ap (λ (h : Hash32). TipTold height h.0) (sym told);
-  found = found;
-  other = λ same. misses (λ on. sym found ∙ same ∙ ap Some told);
+  told = inl (ap (λ (b : Bool). told_by b height hash) met ∙ ap (λ (h : Hash32). TipTold height h.0) (sym misses.0));
+  found = misses.1;
+  other = λ same. misses.2 (same ∙ ap Some misses.0);
 }
-shrunk_by false height hash s blocks good misses told found = absurd (misses (λ on. absurd (false≢true on)))
+
+-- or the tip that the server began with
+shrunk_first : (now : Begun) (mark : TipMark) (s : Hashes) (blocks : List Block) → IsGoodChain blocks → Misses blocks now.tip.height now.tip.hash s
+    → IsShrunk now mark s
+shrunk_first now mark s blocks good misses = record {
+  chain = blocks;
+  good = good;
+  height = now.tip.height;
+  told = inr (refl, sym misses.0);
+  found = misses.1;
+  other = λ same. misses.2 (same ∙ ap Some misses.0);
+}
+
+shrunk_either : (mark : ServedMark) (s : Hashes) (blocks : List Block) → IsGoodChain blocks → IsRefusal blocks mark (NotThere s)
+    → IsShrunk (begun_in mark) (mark_of mark) s
+shrunk_either mark s blocks good (inl told) = shrunk_by (begun_in mark) mark.served.seen mark.height mark.hash s blocks good told.0 told.1
+shrunk_either mark s blocks good (inr first) = shrunk_first (begun_in mark) (mark_of mark) s blocks good first
 
 -- a frame whose message is refused
-pub refused_frame : (fail : TakeFail) (now : ℤ) (nonce : ℕ) (read : Result Msg Malformed) (m : Msg) (mark : ServedMark) (next : TipMark) (o : Option (List ℕ)) → read ≡ Ok m → IsAfterVersion mark fail → IsRefused mark fail
-    → AnswersFrame (Err (ending_of fail)) now nonce read (mark_of mark) next o o
-refused_frame (NotThere s) now nonce read m mark next o is met refused = (
-  (m, is),
-  ap (λ (b : Bool). is_met (told_by b mark.height mark.hash)) met,
-  shrunk_by mark.served.seen mark.height mark.hash s refused.chain refused.good refused.refusal.0 refused.refusal.1 refused.refusal.2,
-  refl,
-)
-refused_frame OutOfMemory now nonce read m mark next o is met refused = inl refl
+pub refused_frame : (fail : TakeFail) (nonce : ℕ) (read : Result Msg Malformed) (m : Msg) (mark : ServedMark) (next : TipMark) (o : Option (List ℕ)) → read ≡ Ok m → IsRefused mark fail
+    → AnswersFrame (Err (ending_of fail)) (begun_in mark) nonce read (mark_of mark) next o o
+refused_frame (NotThere s) nonce read m mark next o is refused = ((m, is), shrunk_either mark s refused.chain refused.good refused.refusal, refl)
+refused_frame OutOfMemory nonce read m mark next o is refused = inl refl
 
 -- one whose answer is sent in part
-pub frame_failed : (outcome : ServeEnd) (now : ℤ) (nonce : ℕ) (read : Result Msg Malformed) (m : Msg) (mark next : TipMark) (text : List ℕ) (o p : Option (List ℕ)) → read ≡ Ok m
+pub frame_failed : (outcome : ServeEnd) (now : Begun) (nonce : ℕ) (read : Result Msg Malformed) (m : Msg) (mark next : TipMark) (text : List ℕ) (o p : Option (List ℕ)) → read ≡ Ok m
     → Answers now nonce mark m next text → Sends (Err outcome) o p text → AnswersFrame (Err (Served outcome)) now nonce read mark next o p
 frame_failed WriteFault now nonce read m mark next text o p is answers sends = inr (record { message = m; is = is; next = next; text = text; answers = answers; begins = sends })
 frame_failed NoMemory now nonce read m mark next text o p is answers sends = inr (record { message = m; is = is; next = next; text = text; answers = answers; begins = sends })
@@ -89,6 +98,6 @@ frame_failed ReadFault now nonce read m mark next text o p is answers sends = ab
 frame_failed Tired now nonce read m mark next text o p is answers sends = absurd sends
 
 -- one whose answer is sent whole
-pub frame_answered : (now : ℤ) (nonce : ℕ) (read : Result Msg Malformed) (m : Msg) (mark next : TipMark) (text : List ℕ) (o p : Option (List ℕ)) → read ≡ Ok m
+pub frame_answered : (now : Begun) (nonce : ℕ) (read : Result Msg Malformed) (m : Msg) (mark next : TipMark) (text : List ℕ) (o p : Option (List ℕ)) → read ≡ Ok m
     → Answers now nonce mark m next text → Whole o p text → Answered now nonce read mark next o p
 frame_answered now nonce read m mark next text o p is answers whole = record { message = m; is = is; text = text; answers = answers; written = whole }

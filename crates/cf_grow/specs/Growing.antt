@@ -1,21 +1,25 @@
 -- machine: what a growing chain tells a connection, by a step.
-use Rattle.std.specs.Prelude.{◌≡◌, ℕ, Bool, true, false, if◌then◌else◌, List, [], ◌∷◌, ◌++◌, length, nat_lt, Option, Some, None, is_none, Result, Ok, Err}
+use Rattle.std.specs.Prelude.{◌≡◌, ◌⊎◌, ◌+◌, ℕ, Bool, true, false, if◌then◌else◌, List, [], ◌∷◌, ◌++◌, length, nat_lt, Option, Some, None, is_none, Result, Ok, Err}
 use Rattle.cf_bytes.specs.declared.hash.Hash32.{Hash32}
 use Rattle.cf_block.specs.declared.tx.Block.{Block}
 use Rattle.cf_chain.specs.Good.{IsGoodChain}
 use Rattle.cf_chain.specs.Grow.{GrowAnswer, TipMark, NotMet, TipTold, mark_at, announcement, asked_for, grown, grow_answer}
 use Rattle.cf_grow.specs.declared.grown.Taken.{Taken}
 use Rattle.cf_grow.specs.declared.mark.ServedMark.{ServedMark}
+use Rattle.cf_grow.specs.declared.mark.Shrunk.{Shrunk as Hashes}
 use Rattle.cf_grow.specs.declared.mark.TakeFail.{TakeFail}
 use Rattle.cf_grow.specs.declared.mark.TakeFail.TheVariants.{Shrunk, NoMemory}
 use Rattle.cf_grow.specs.declared.taking.Answer.{Answer}
-use Rattle.cf_grow.specs.Held.{texts_in}
+use Rattle.cf_grow.specs.Held.{text_all}
 use Rattle.cf_walk.specs.Files.{cause_on}
+use Rattle.cf_frame.specs.declared.frame.Frame.{Frame}
 use Rattle.cf_msg.specs.declared.msg.Msg.{Msg}
+use Rattle.cf_msg.specs.declared.msg.Msg.TheVariants.{Block as BlockMessage}
+use Rattle.cf_msg.specs.Reading.{message_of}
 use Rattle.cf_server.specs.declared.answering.Serving.{Serving}
 use Rattle.cf_server.specs.Replies.{messages_of, AreRepliesOf}
 use Rattle.cf_server.specs.Serving.{text_of}
-use Rattle.cf_grow.specs.Standing.{hash_in}
+use Rattle.cf_grow.specs.Standing.{Begun, Keeps, hash_in}
 
 -- what was told, by what is kept of it
 abbrev pub told_by : Bool → ℕ → Hash32 → TipMark
@@ -51,9 +55,14 @@ pub record IsAnswerOf (served : Serving) (blocks : List Block) (a : Answer) (mes
   pub told : messages_in served blocks a ≡ messages
   pub each : AreRepliesOf blocks a.plain
 
--- it is refused only where the mark doesn't stand on the chain, and carries both hashes
+-- a chain hasn't this hash at this height: these are both hashes
+abbrev pub Misses : List Block → ℕ → Hash32 → Hashes → Type 0
+Misses blocks height hash s = (s.seen ≡ hash) × (s.found ≡ hash_in blocks height) × (s.found ≡ Some hash → ⊥)
+
+-- it is refused only where the mark doesn't stand on the chain, once something was told, or the first tip doesn't, and carries both hashes
 abbrev pub IsRefusal : List Block → ServedMark → TakeFail → Type 0
-IsRefusal blocks mark (Shrunk s) = (HasMark blocks mark → ⊥) × (s.seen ≡ mark.hash) × (s.found ≡ hash_in blocks mark.height)
+IsRefusal blocks mark (Shrunk s) =
+    ((mark.served.seen ≡ true) × Misses blocks mark.height mark.hash s) ⊎ Misses blocks mark.first.height mark.first.hash s
 IsRefusal blocks mark NoMemory = Unit {0}
 
 abbrev pub Refuses : {X : Type 0} → List Block → ServedMark → Result X TakeFail → Type 0
@@ -70,22 +79,30 @@ abbrev pub RefusesBy : {X : Type 0} → ServedMark → Result X TakeFail → Typ
 RefusesBy mark (Ok x) = Unit {0}
 RefusesBy mark (Err e) = IsRefused mark e
 
--- a chain that isn't the one that was told is found only once a version has come
-abbrev pub IsAfterVersion : ServedMark → TakeFail → Type 0
-IsAfterVersion mark (Shrunk s) = mark.served.seen ≡ true
-IsAfterVersion mark NoMemory = Unit {0}
+-- what the server began with
+abbrev pub begun_in : ServedMark → Begun
+begun_in mark = record { time = mark.served.time; tip = mark.first }
 
-abbrev pub ShrinksAfter : {X : Type 0} → ServedMark → Result X TakeFail → Type 0
-ShrinksAfter mark (Ok x) = Unit {0}
-ShrinksAfter mark (Err e) = IsAfterVersion mark e
-
--- the time and the nonce of the server's own version stay
+-- that and the nonce of the server's own version stay
 abbrev pub HasMomentOf : ServedMark → ServedMark → Type 0
-HasMomentOf old new = (new.served.time ≡ old.served.time) × (new.served.nonce ≡ old.served.nonce)
+HasMomentOf old new = (begun_in new ≡ begun_in old) × (new.served.nonce ≡ old.served.nonce)
 
 -- a block may stand on a chain
 abbrev pub fits_on : List Block → Block → Bool
 fits_on blocks b = is_none (cause_on blocks b)
+
+-- a chain that grows, and how many bytes of blocks may still join it
+pub record Growth : Type 0 where
+  pub blocks : List Block
+  pub room : ℕ
+
+-- nothing has changed, or so many bytes of the room were taken
+abbrev pub TakesRoom : ℕ → Growth → Growth → Type 0
+TakesRoom size old new = (new ≡ old) ⊎ (new.room + size ≡ old.room)
+
+-- a frame brings no block that may stand on a chain
+abbrev pub BringsNone : List Block → Frame → Type 0
+BringsNone blocks f = (b : Block) → message_of f ≡ Ok (BlockMessage b) → fits_on blocks b ≡ false
 
 -- the height of the block that has joined, where one has
 abbrev pub height_joined : ℕ → ℕ → Option ℕ
@@ -94,11 +111,12 @@ height_joined before now = if nat_lt before now then Some now else None
 abbrev pub joined_in : List Block → List Block → Option ℕ
 joined_in old new = height_joined (length old) (length new)
 
--- one message was answered by a good chain on which the mark stands, and of a block that has joined it the height is told
+-- one message was answered by a good chain that has the first tip, and on which the mark stands, and of a block that has joined it the height is told
 pub record IsStep (mark now : ServedMark) (m : Msg) (taken : Taken) : Type 0 where
   pub chain : List Block
   pub good : IsGoodChain chain
   pub has : HasMark chain mark
-  pub answer : texts_in taken.parts ≡ text_of (answer_at mark chain m).replies
+  pub keeps : Keeps chain mark.first
+  pub answer : text_all taken.parts ≡ text_of (answer_at mark chain m).replies
   pub next : mark_of now ≡ (answer_at mark chain m).mark
   pub joined : taken.joined ≡ joined_in chain (grown fits_on chain mark.served.seen m)

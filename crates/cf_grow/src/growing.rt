@@ -1,8 +1,9 @@
 //! What a server has whose chain grows, and each of its connections.
 ghost use Rattle.std.specs.Prelude.{◌≡◌, IfOk};
 ghost use Rattle.cf_grow.specs.GrowingService.{IsServedWhileGrowing};
+ghost use Rattle.cf_grow.specs.Standing.{tip_of};
 
-use crate::{Grown, Joins, serve_grown};
+use crate::{Grown, Joins, Tip, serve_grown};
 use cf_bytes::NoMemory;
 use cf_conn::Duplex;
 use cf_index::Index;
@@ -12,7 +13,7 @@ use std::marker::Model;
 use std::sync::{Arc, Mutex, Wait};
 
 /// The serving machine over a chain that grows, which all shares lock, and whoever is told of each block that joins it.
-/// Contracts see the time and the nonce of its `version`.
+/// Contracts see the time and the nonce of its `version`, and the tip of the chain that it began with.
 #[derive(Drop)]
 pub struct GrowingServer<R: Wait + Copy, J: Joins + Copy> {
     rt: R,
@@ -21,6 +22,7 @@ pub struct GrowingServer<R: Wait + Copy, J: Joins + Copy> {
     joins: J,
     moment: i64,
     nonce: u64,
+    first: Tip,
 }
 
 impl<R: Wait + Copy, J: Joins + Copy> Model for GrowingServer<R, J> {
@@ -28,22 +30,27 @@ impl<R: Wait + Copy, J: Joins + Copy> Model for GrowingServer<R, J> {
 
     ghost Value = { Moment };
 
-    ghost view = { λ s. record { moment = s.moment; nonce = s.nonce } };
+    ghost view = { λ s. record { moment = s.moment; nonce = s.nonce; tip = s.first } };
 }
 
 impl<R: Wait + Copy, J: Joins + Copy> GrowingServer<R, J> {
-    /// A server that begins with this chain. Its `version` tells the time in seconds since 1970 and the nonce.
+    /// A server that begins with this chain, whose coins are found now, and which so many bytes of blocks may join. Its
+    /// `version` tells the time in seconds since 1970 and the nonce.
     pub fn new(
         rt: R,
         alloc: Global,
         index: Index,
         joins: J,
+        room: u64,
         moment: i64,
         nonce: u64,
     ) -> Result<GrowingServer<R, J>, NoMemory>
-        ensures { IfOk result (λ s. s ≡ record { moment = moment; nonce = nonce }) }
+        ensures { IfOk result (λ s. s ≡ record { moment = moment; nonce = nonce; tip = tip_of index }) }
     {
-        let grown = Arc::new(alloc, Mutex::new(Grown::new(index)))?;
+        let first = Tip::of(&index);
+        let mut index = index;
+        index.find_coins(alloc)?;
+        let grown = Arc::new(alloc, Mutex::new(Grown::new(alloc, index, room)))?;
         Ok(GrowingServer {
             rt,
             alloc,
@@ -51,6 +58,7 @@ impl<R: Wait + Copy, J: Joins + Copy> GrowingServer<R, J> {
             joins,
             moment,
             nonce,
+            first,
         })
     }
 }
@@ -67,6 +75,7 @@ impl<R: Wait + Copy, J: Joins + Copy> Service for GrowingServer<R, J> {
             joins: self.joins,
             moment: self.moment,
             nonce: self.nonce,
+            first: self.first,
         })
     }
 
@@ -79,6 +88,7 @@ impl<R: Wait + Copy, J: Joins + Copy> Service for GrowingServer<R, J> {
             conn,
             self.moment,
             self.nonce,
+            self.first,
         )
         .number()
     }

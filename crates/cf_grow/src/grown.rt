@@ -1,18 +1,21 @@
 //! A chain that grows while it is served.
-ghost use Rattle.std.specs.Prelude.{◌≡◌, IfOk, OnOk, OnErr, true};
+ghost use Rattle.std.specs.Prelude.{◌≡◌, length, Ok, IfOk, OnOk, OnErr, true};
 ghost use Rattle.cf_block.specs.{IsBlock};
 ghost use Rattle.cf_chain.specs.{IsGoodChain, grown};
-ghost use Rattle.cf_grow.specs.Growing.{HasMark, HasMomentOf, IsStep, Refuses, RefusesBy, ShrinksAfter, answer_at, fits_on, height_joined, joined_in, mark_of};
-ghost use Rattle.cf_grow.specs.Held.{texts_in};
+ghost use Rattle.cf_grow.specs.Growing.{HasMark, HasMomentOf, IsStep, Refuses, RefusesBy, TakesRoom, answer_at, fits_on, height_joined, joined_in, mark_of};
+ghost use Rattle.cf_grow.specs.Standing.{Keeps};
+ghost use Rattle.cf_grow.specs.Held.{text_all};
 ghost use Rattle.cf_msg.specs.declared.msg.Msg.TheVariants.{Block as BlockMessage};
-ghost use Rattle.cf_msg.specs.{HasSpelling};
+ghost use Rattle.cf_msg.specs.{HasSpelling, message_of as message_in};
 ghost use Rattle.cf_server.specs.{text_of};
 
 use crate::held::{Parts, hold_answer};
 use crate::mark::{ServedMark, TakeFail};
+use crate::refused::RefusedBlocks;
 use crate::taking::take_at;
 use cf_block::Block;
 use cf_bytes::{NoMemory, Refused};
+use cf_frame::Frame;
 use cf_index::Index;
 use cf_msg::Msg;
 use std::alloc::Global;
@@ -26,6 +29,9 @@ pub struct Taken {
     pub joined: Option<u32>,
 }
 
+/// How many bytes of blocks may join a chain in all, where no other limit is given.
+pub const MOST_JOINED: u64 = 1_073_741_824;
+
 // The answer to a message, held. After a refusal the mark is unchanged.
 #[tactic(auto, using(crate::proofs::Holding::told_so))]
 fn answer_held(
@@ -36,7 +42,8 @@ fn answer_held(
 ) -> Result<Parts, TakeFail>
     requires { HasSpelling msg.now }
     ensures has { OnOk result (HasMark index.now mark.old) }
-    ensures answer { IfOk result (λ parts. texts_in parts ≡ text_of (answer_at mark.old index.now msg.now).replies) }
+    ensures keeps { OnOk result (Keeps index.now mark.old.first) }
+    ensures answer { IfOk result (λ parts. text_all parts ≡ text_of (answer_at mark.old index.now msg.now).replies) }
     ensures mark { OnOk result (mark_of mark.new ≡ (answer_at mark.old index.now msg.now).mark) }
     ensures moment { HasMomentOf mark.old mark.new }
     ensures refused { Refuses index.now mark.old result }
@@ -56,79 +63,121 @@ fn answer_held(
     }
 }
 
-/// A chain that grows while it is served. Contracts see the list of its blocks above genesis, the lowest first.
+/// A chain that grows while it is served. Contracts see the list of its blocks above genesis, the lowest first, and how
+/// many bytes of blocks may still join it.
 #[derive(Drop)]
 pub struct Grown {
     index: Index,
+    room: u64,
+    // Blocks that may not stand on the chain as it is.
+    refused: RefusedBlocks,
 }
 
 impl Model for Grown {
-    ghost use Rattle.std.specs.Prelude.{List};
-    ghost use Rattle.cf_block.specs.declared.tx.Block.{Block};
+    ghost use Rattle.std.specs.List.{AllByRecursion};
+    ghost use Rattle.cf_grow.specs.Growing.{BringsNone, Growth};
 
-    ghost Value = { List Block };
+    ghost Value = { Growth };
 
-    ghost view = { λ s. s.index };
+    ghost view = { λ s. record { blocks = s.index; room = s.room } };
+
+    ghost invariant = { λ s. AllByRecursion (BringsNone s.index) s.refused };
 }
 
 impl Grown {
-    /// A chain that was loaded.
-    pub fn new(index: Index) -> Grown
-        ensures { result ≡ index }
+    /// A chain that was loaded, which so many bytes of blocks may join in all.
+    pub fn new(alloc: Global, index: Index, room: u64) -> Grown
+        ensures { result ≡ record { blocks = index; room = room } }
     {
-        Grown { index }
+        Grown {
+            index,
+            room,
+            refused: RefusedBlocks::new(alloc),
+        }
     }
 
-    // Puts a block on the chain, where it may stand there.
-    #[tactic(auto, using(crate::proofs::Grows::grows_by, crate::proofs::Grows::stays_by))]
-    fn put(&mut self, alloc: Global, block: Block) -> Result<(), NoMemory>
-        requires { IsBlock block }
-        ensures ok { OnOk result (self.new ≡ grown fits_on self.old true (BlockMessage block)) }
+    // Puts the block of a frame on the chain, where it may stand there. Where the frame's bytes have no room no memory
+    // is found.
+    #[tactic(auto, using(crate::proofs::Grows::put_so))]
+    fn put(&mut self, alloc: Global, frame: Frame, block: Block) -> Result<(), NoMemory>
+        requires block { IsBlock block }
+        requires brings { message_in frame ≡ Ok (BlockMessage block) }
+        ensures ok { OnOk result (self.new.blocks ≡ grown fits_on self.old.blocks true (BlockMessage block)) }
+        ensures room { OnOk result (TakesRoom (length frame.payload) self.old self.new) }
         ensures err { OnErr result (self.new ≡ self.old) }
     {
+        let size = frame.payload.len() as u64;
+        if self.room < size {
+            return Err(NoMemory);
+        }
         match self.index.add(alloc, block) {
-            Ok(()) => Ok(()),
-            Err(Refused::No(_cause)) => Ok(()),
+            Ok(()) => {
+                self.room -= size;
+                self.refused.forget();
+                Ok(())
+            }
+            Err(Refused::No(_cause)) => {
+                self.refused.keep(frame);
+                Ok(())
+            }
             Err(Refused::NoMemory) => Err(NoMemory),
         }
     }
 
+    // Puts the block of a frame on the chain, where it may stand there and wasn't refused lately.
+    #[tactic(auto, using(crate::proofs::Grows::stays_refused))]
+    fn put_new(&mut self, alloc: Global, frame: Frame, block: Block) -> Result<(), NoMemory>
+        requires block { IsBlock block }
+        requires brings { message_in frame ≡ Ok (BlockMessage block) }
+        ensures ok { OnOk result (self.new.blocks ≡ grown fits_on self.old.blocks true (BlockMessage block)) }
+        ensures room { OnOk result (TakesRoom (length frame.payload) self.old self.new) }
+        ensures err { OnErr result (self.new ≡ self.old) }
+    {
+        if self.refused.has(&frame) {
+            return Ok(());
+        }
+        self.put(alloc, frame, block)
+    }
+
     // Puts the block of a message on the chain, where its sender was met and the block may stand there.
-    fn grow(&mut self, alloc: Global, met: bool, msg: Msg) -> Result<(), NoMemory>
-        requires { HasSpelling msg }
-        ensures ok { OnOk result (self.new ≡ grown fits_on self.old met msg) }
+    fn grow(&mut self, alloc: Global, met: bool, frame: Frame, msg: Msg) -> Result<(), NoMemory>
+        requires spelled { HasSpelling msg }
+        requires brings { message_in frame ≡ Ok msg }
+        ensures ok { OnOk result (self.new.blocks ≡ grown fits_on self.old.blocks met msg) }
+        ensures room { OnOk result (TakesRoom (length frame.payload) self.old self.new) }
         ensures err { OnErr result (self.new ≡ self.old) }
     {
         if !met {
             return Ok(());
         }
         if let Msg::Block(block) = msg {
-            return self.put(alloc, block);
+            return self.put_new(alloc, frame, block);
         }
         Ok(())
     }
 
-    /// One step: the chain as it stands answers the message, and then the block that it brings is put on, where it may
-    /// stand there. It is refused where the chain hasn't the mark's hash at its height, and where no memory is found;
-    /// after that nothing has changed.
-    #[tactic(auto, using(crate::proofs::Marks::after_version))]
+    /// One step: the chain as it stands answers the message of a frame, and then the block that it brings is put on,
+    /// where it may stand there. It is refused where the chain hasn't the mark's hash at its height, or no longer has
+    /// its first tip, and where no memory is found, or no room for a block; after that nothing has changed.
     pub fn take(
         &mut self,
         alloc: Global,
         mark: &mut ServedMark,
+        frame: Frame,
         msg: Msg,
     ) -> Result<Taken, TakeFail>
-        requires { HasSpelling msg }
-        ensures good { IsGoodChain self.old }
-        ensures has { OnOk result (HasMark self.old mark.old) }
+        requires spelled { HasSpelling msg }
+        requires brings { message_in frame ≡ Ok msg }
+        ensures good { IsGoodChain self.old.blocks }
+        ensures has { OnOk result (HasMark self.old.blocks mark.old × Keeps self.old.blocks mark.old.first) }
         ensures answer { IfOk result
-            (λ taken. texts_in taken.parts ≡ text_of (answer_at mark.old self.old msg).replies) }
-        ensures mark { OnOk result (mark_of mark.new ≡ (answer_at mark.old self.old msg).mark) }
-        ensures grown { OnOk result (self.new ≡ grown fits_on self.old mark.old.served.seen msg) }
-        ensures joined { IfOk result (λ taken. taken.joined ≡ joined_in self.old self.new) }
+            (λ taken. text_all taken.parts ≡ text_of (answer_at mark.old self.old.blocks msg).replies) }
+        ensures mark { OnOk result (mark_of mark.new ≡ (answer_at mark.old self.old.blocks msg).mark) }
+        ensures grown { OnOk result (self.new.blocks ≡ grown fits_on self.old.blocks mark.old.served.seen msg) }
+        ensures room { OnOk result (TakesRoom (length frame.payload) self.old self.new) }
+        ensures joined { IfOk result (λ taken. taken.joined ≡ joined_in self.old.blocks self.new.blocks) }
         ensures moment { HasMomentOf mark.old mark.new }
-        ensures refused { Refuses self.old mark.old result }
-        ensures met { ShrinksAfter mark.old result }
+        ensures refused { Refuses self.old.blocks mark.old result }
         ensures kept { OnErr result ((mark.new ≡ mark.old) × (self.new ≡ self.old)) }
     {
         let height = self.index.tip();
@@ -137,7 +186,7 @@ impl Grown {
             Ok(parts) => parts,
             Err(e) => return Err(e),
         };
-        match self.grow(alloc, before.served.seen, msg) {
+        match self.grow(alloc, before.served.seen, frame, msg) {
             Ok(()) => {
                 let joined = height_above(height, self.index.tip());
                 Ok(Taken { parts, joined })
@@ -158,23 +207,25 @@ fn height_above(before: u32, now: u32) -> Option<u32>
 }
 
 /// One step under the lock: whatever others have put on the chain, the answer is that of a good chain on which the mark
-/// stands, and the height is told of a block that joins that chain. It is refused only by a good chain that hasn't the
-/// mark's hash at its height, with both hashes, and where no memory is found. The lock is let go with the return, and
-/// what is answered needs it no more.
+/// stands, and which still has its first tip; the height is told of a block that joins that chain. It is refused only
+/// by a good chain that hasn't the mark's hash at its height, or no longer has its first tip, with both hashes, and
+/// where no memory is found, or no room for a block. The lock is let go with the return, and what is answered needs it
+/// no more.
 pub fn take_locked<R: Wait>(
     rt: &R,
     alloc: Global,
     grown: &Mutex<Grown>,
     mark: &mut ServedMark,
+    frame: Frame,
     msg: Msg,
 ) -> Result<Taken, TakeFail>
-    requires { HasSpelling msg }
+    requires spelled { HasSpelling msg }
+    requires brings { message_in frame ≡ Ok msg }
     ensures step { IfOk result (λ taken. IsStep mark.old mark.new msg taken) }
     ensures moment { HasMomentOf mark.old mark.new }
     ensures refused { RefusesBy mark.old result }
-    ensures met { ShrinksAfter mark.old result }
     ensures kept { OnErr result (mark.new ≡ mark.old) }
 {
     let mut locked = grown.lock(rt);
-    locked.take(alloc, mark, msg)
+    locked.take(alloc, mark, frame, msg)
 }

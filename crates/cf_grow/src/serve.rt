@@ -2,7 +2,7 @@
 ghost use Rattle.std.specs.Prelude.{◌≡◌, ◌≤◌, ◌++◌, IfSome, IfOk, IfErr, OnOk};
 ghost use Rattle.cf_frame.specs.{IsFrame};
 ghost use Rattle.cf_bytes.specs.{IsBytes};
-ghost use Rattle.cf_grow.specs.Growing.{HasMomentOf, mark_of};
+ghost use Rattle.cf_grow.specs.Growing.{HasMomentOf, begun_in, mark_of};
 ghost use Rattle.cf_grow.specs.Serving.{AnswersFrame, CountsOf, CountsSends, EndsInside, EndsOf, FindsFrame, IsServedGrowing, TakesFrames};
 ghost use Rattle.cf_msg.specs.{HasSpelling, Answers, message_of as message_in};
 ghost use Rattle.cf_server.specs.{Idles};
@@ -10,7 +10,7 @@ ghost use Rattle.cf_server.specs.{Idles};
 use crate::ending::Ending;
 use crate::grown::{Grown, take_locked};
 use crate::joins::Joins;
-use crate::mark::ServedMark;
+use crate::mark::{ServedMark, Tip};
 use crate::sending::send_parts;
 use cf_bytes::Refused;
 use cf_conn::Duplex;
@@ -44,7 +44,7 @@ fn tell<J: Joins>(joins: &J, height: Option<u32>) {
 }
 
 // Reads a frame's message, takes one step under the lock, and writes what the message is answered with once the lock is
-// let go.
+// let go. Neither the frame nor the message is held while it is written.
 fn answer_frame<R: Wait, J: Joins, C: Duplex>(
     rt: &R,
     alloc: Global,
@@ -52,10 +52,10 @@ fn answer_frame<R: Wait, J: Joins, C: Duplex>(
     joins: &J,
     conn: &mut C,
     mark: &mut ServedMark,
-    frame: &Frame,
+    frame: Frame,
 ) -> Result<(), Ending>
-    requires { IsFrame frame.now }
-    ensures answers { AnswersFrame result mark.old.served.time mark.old.served.nonce (message_in frame.now)
+    requires { IsFrame frame }
+    ensures answers { AnswersFrame result (begun_in mark.old) mark.old.served.nonce (message_in frame)
         (mark_of mark.old) (mark_of mark.new) (C.written conn.old) (C.written conn.new) }
     ensures moment { HasMomentOf mark.old mark.new }
     ensures count { CountsSends result (C.Sink.faults conn.old) (C.Sink.faults conn.new) }
@@ -63,14 +63,14 @@ fn answer_frame<R: Wait, J: Joins, C: Duplex>(
     ensures ended { C.ended conn.new ≡ C.ended conn.old }
     ensures read_faults { C.Source.faults conn.new ≡ C.Source.faults conn.old }
 {
-    let msg = match read_spelled(alloc, frame) {
+    let msg = match read_spelled(alloc, &frame) {
         Ok(msg) => msg,
         Err(Refused::No(fault)) => return Err(Ending::Served(ServeEnd::Malformed(fault))),
         Err(Refused::NoMemory) => return Err(Ending::Served(ServeEnd::NoMemory)),
     };
-    let taken = take_locked(rt, alloc, grown, mark, msg)?;
+    let taken = take_locked(rt, alloc, grown, mark, frame, msg)?;
     tell(joins, taken.joined);
-    send_parts(alloc, conn, taken.parts.as_slice())?;
+    send_parts(alloc, conn, taken.parts)?;
     Ok(())
 }
 
@@ -105,7 +105,7 @@ fn take_frames<R: Wait, J: Joins, C: Duplex>(
     session: &mut Session,
 ) -> Result<(), Ending>
     requires { 1 ≤ session.old.left }
-    ensures takes { TakesFrames result session.old.mark.served.time session.old.mark.served.nonce session.old.left
+    ensures takes { TakesFrames result (begun_in session.old.mark) session.old.mark.served.nonce session.old.left
         session.new.left session.old.framer session.new.framer (mark_of session.old.mark) (mark_of session.new.mark)
         (C.written conn.old) (C.written conn.new) }
     ensures moment { HasMomentOf session.old.mark session.new.mark }
@@ -117,7 +117,7 @@ fn take_frames<R: Wait, J: Joins, C: Duplex>(
     ensures read_faults { C.Source.faults conn.new ≡ C.Source.faults conn.old }
 {
     while let Some(frame) = next_frame(&mut session.framer)? {
-        answer_frame(rt, alloc, grown, joins, conn, &mut session.mark, &frame)?;
+        answer_frame(rt, alloc, grown, joins, conn, &mut session.mark, frame)?;
         session.left -= 1;
         if session.left == 0 {
             return Err(Ending::Served(ServeEnd::Tired));
@@ -137,7 +137,7 @@ fn take_piece<R: Wait, J: Joins, C: Duplex>(
     piece: &[u8],
 ) -> Result<(), Ending>
     requires { 1 ≤ session.old.left }
-    ensures takes { TakesFrames result session.old.mark.served.time session.old.mark.served.nonce session.old.left
+    ensures takes { TakesFrames result (begun_in session.old.mark) session.old.mark.served.nonce session.old.left
         session.new.left (session.old.framer ++ piece.now) session.new.framer (mark_of session.old.mark)
         (mark_of session.new.mark) (C.written conn.old) (C.written conn.new) }
     ensures moment { HasMomentOf session.old.mark session.new.mark }
@@ -155,10 +155,10 @@ fn take_piece<R: Wait, J: Joins, C: Duplex>(
     }
 }
 
-/// Serves a connection from a chain that grows: message by message the answer is that of a good chain on which the mark
-/// stands that the message before has left. It ends as from a chain that stands still, or where the chain is another
-/// than was told, with the hash told and the one there. Nothing is written while the lock is held. Each block that
-/// joins is told of, once the lock is let go.
+/// Serves a connection from a chain that grows and began with this tip: message by message the answer is that of a good
+/// chain that has it, and on which the mark stands that the message before has left. It ends as from a chain that
+/// stands still, or where the chain is another than was told or than it began with, with the hash of then and the one
+/// there. Nothing is written while the lock is held. Each block that joins is told of, once the lock is let go.
 pub fn serve_grown<R: Wait, J: Joins, C: Duplex>(
     rt: &R,
     alloc: Global,
@@ -167,9 +167,10 @@ pub fn serve_grown<R: Wait, J: Joins, C: Duplex>(
     conn: &mut C,
     moment: i64,
     nonce: u64,
+    first: Tip,
 ) -> Ending
     ensures served { IfSome (C.left conn.old)
-        (λ bytes. IsServedGrowing moment nonce result bytes
+        (λ bytes. IsServedGrowing (record { time = moment; tip = first }) nonce result bytes
         (C.left conn.new) (C.written conn.old) (C.written conn.new)) }
     ensures ends { EndsOf result (C.ended conn.new) (C.left conn.new) }
     ensures counts { CountsOf result (C.Source.faults conn.old) (C.Source.faults conn.new) (C.Sink.faults conn.old)
@@ -177,7 +178,7 @@ pub fn serve_grown<R: Wait, J: Joins, C: Duplex>(
 {
     let mut session = Session {
         framer: Framer::new(alloc),
-        mark: ServedMark::new(moment, nonce),
+        mark: ServedMark::new(moment, nonce, first),
         left: MOST_FRAMES,
     };
     let mut piece = [0u8; PIECE];

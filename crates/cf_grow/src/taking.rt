@@ -3,6 +3,7 @@ ghost use Rattle.std.specs.Prelude.{◌≡◌, ◌++◌, IfOk, OnOk, OnErr, true
 ghost use Rattle.std.specs.List.{flat_map};
 ghost use Rattle.cf_chain.specs.{is_unknown, told_first, top_hash, unknown_entry, wanted_entries};
 ghost use Rattle.cf_grow.specs.Growing.{HasMark, HasMomentOf, IsAnswerOf, Refuses, answer_at, mark_of, moved, news_in};
+ghost use Rattle.cf_grow.specs.Standing.{Keeps};
 
 use crate::mark::{ServedMark, Shrunk, TakeFail};
 use cf_bytes::{Hash32, NoMemory};
@@ -34,8 +35,19 @@ fn has_mark(index: &Index, mark: &ServedMark) -> bool
     }
 }
 
+// Whether the chain still has the tip that it began with.
+fn has_first(index: &Index, mark: &ServedMark) -> bool
+    ensures has { result ≡ true → Keeps index.now mark.now.first }
+    ensures lacks { result ≡ false → Keeps index.now mark.now.first → ⊥ }
+{
+    match index.hash(mark.first.height) {
+        Some(hash) => hash == mark.first.hash,
+        None => false,
+    }
+}
+
 // The hash of the highest block.
-fn top_of(index: &Index) -> Hash32
+pub(crate) fn top_of(index: &Index) -> Hash32
     ensures { result.0 ≡ top_hash index.now }
 {
     let tip = index.tip();
@@ -105,14 +117,17 @@ fn move_mark(index: &Index, mark: &mut ServedMark, served: Serving)
     requires { mark.old.served.seen ≡ true → served.seen ≡ true }
     ensures mark { mark_of mark.new ≡ moved index.now (mark_of mark.old) served.seen }
     ensures served { mark.new.served ≡ served }
+    ensures first { mark.new.first ≡ mark.old.first }
 {
     let height = index.tip();
     let hash = top_of(index);
+    let first = mark.first;
     if !mark.served.seen {
         *mark = ServedMark {
             served,
             height,
             hash,
+            first,
         };
         return;
     }
@@ -121,6 +136,7 @@ fn move_mark(index: &Index, mark: &mut ServedMark, served: Serving)
             served,
             height,
             hash,
+            first,
         };
         return;
     }
@@ -128,9 +144,9 @@ fn move_mark(index: &Index, mark: &mut ServedMark, served: Serving)
 }
 
 /// Answers a message by the chain that the index holds, the tip first where the connection wasn't told of it, and moves
-/// the mark. It is refused exactly where the chain hasn't the mark's hash at its height. After a refusal the mark is
-/// unchanged.
-#[tactic(auto, using(crate::proofs::Marks::answer_is, crate::proofs::Marks::mark_moved))]
+/// the mark. It is refused exactly where the chain hasn't the mark's hash at its height, or no longer has its first
+/// tip. After a refusal the mark is unchanged.
+#[tactic(auto, using(crate::proofs::Marks::taken_so))]
 pub(crate) fn take_at(
     alloc: Global,
     index: &Index,
@@ -138,6 +154,7 @@ pub(crate) fn take_at(
     msg: &Msg,
 ) -> Result<Answer, TakeFail>
     ensures has { OnOk result (HasMark index.now mark.old) }
+    ensures keeps { OnOk result (Keeps index.now mark.old.first) }
     ensures answer { IfOk result
         (λ a. IsAnswerOf mark.old.served index.now a (answer_at mark.old index.now msg.now).replies) }
     ensures wants { IfOk result (λ a. a.wants ≡ wanted_entries index.now mark.old.served.seen msg.now) }
@@ -146,6 +163,12 @@ pub(crate) fn take_at(
     ensures refused { Refuses index.now mark.old result }
     ensures kept { OnErr result (mark.new ≡ mark.old) }
 {
+    if !has_first(index, mark) {
+        return Err(TakeFail::Shrunk(Shrunk {
+            seen: mark.first.hash,
+            found: index.hash(mark.first.height),
+        }));
+    }
     if !has_mark(index, mark) {
         return Err(TakeFail::Shrunk(Shrunk {
             seen: mark.hash,

@@ -11,6 +11,7 @@ ghost use Rattle.cf_index.specs.Bare.{AreKept, GoOn, IsBare, IsBareAt};
 ghost use Rattle.cf_index.specs.Filtering.{shown};
 
 use crate::block_filter::{BareFilter, BlockFilter};
+use crate::shared::SharedFilter;
 use cf_block::{Block, Script, block_hash, genesis};
 use cf_bytes::{Hash32, Listed, NoMemory};
 use cf_coins::Spent;
@@ -36,9 +37,10 @@ pub(crate) fn bare_filter(
     let items = items(alloc, block, spent)?;
     let filter = build(alloc, name, &items)?;
     let hash = filter_hash(&filter);
+    let filter = SharedFilter::new(alloc, Listed::from_vec(filter))?;
     Ok(BareFilter {
         block: *name,
-        filter: Listed::from_vec(filter),
+        filter,
         hash,
     })
 }

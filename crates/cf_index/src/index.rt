@@ -19,7 +19,7 @@ use crate::block_filter::BlockFilter;
 use crate::checked::CheckedChain;
 use crate::filters::{all_filters, bare_filter, with_header};
 use crate::heights::{Heights, heights_of};
-use crate::shared::{SharedBlock, SharedBlocks, shared_blocks};
+use crate::shared::{SharedBlock, SharedBlocks, SharedFilter, shared_blocks};
 use cf_block::{Block, Header, TxIds, block_hash, genesis, txids};
 use cf_bytes::{Hash32, Listed, NoMemory, Refused};
 use cf_coins::{Coins, Spent, spend_block};
@@ -282,6 +282,15 @@ impl Index {
         Ok(())
     }
 
+    /// Finds the chain's coins, by which `add` judges, so that the first call needn't.
+    pub fn find_coins(&mut self, alloc: Global) -> Result<(), NoMemory>
+        ensures { self.new ≡ self.old }
+    {
+        let coins = take_coins(alloc, &mut self.coins, self.blocks.as_slice())?;
+        self.coins = Some(coins);
+        Ok(())
+    }
+
     // The hash of the highest block.
     fn top_hash(&self) -> Hash32
         ensures { result.0 ≡ tip_hash (headers_of self.now) }
@@ -356,6 +365,13 @@ impl Index {
     {
         self.filter_of(height)
             .map(|filter| filter.filter.as_slice())
+    }
+
+    /// The same, to be shared.
+    pub fn shared_filter(&self, height: u32) -> Option<&SharedFilter>
+        ensures { option_copied result ≡ option_map (λ f. f.filter) (filter_at self.now height) }
+    {
+        self.filter_of(height).map(|filter| &filter.filter)
     }
 
     /// The hash of its filter.

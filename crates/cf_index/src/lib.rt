@@ -19,6 +19,6 @@ pub use checked::CheckedChain;
 pub use file::read_chain;
 pub use index::Index;
 pub use laws::{laws_of_adding, laws_of_files};
-pub use shared::SharedBlock;
+pub use shared::{SharedBlock, SharedFilter};
 pub use source::read_source;
 pub use tx_index::TxIndex;

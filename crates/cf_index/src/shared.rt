@@ -1,4 +1,4 @@
-//! Blocks that an index shares with those who send them.
+//! Blocks and filters that an index shares with those who send them.
 ghost use Rattle.std.specs.Prelude.{◌≡◌, IfOk};
 
 use cf_block::Block;
@@ -44,6 +44,46 @@ impl SharedBlock {
         ensures { result.now ≡ self.now }
     {
         &self.block
+    }
+}
+
+/// The bytes of a basic filter, which several may hold at once. Contracts see the bytes.
+#[derive(Drop)]
+pub struct SharedFilter {
+    bytes: Arc<Listed<u8>, Global>,
+}
+
+impl Model for SharedFilter {
+    ghost use Rattle.std.specs.Prelude.{List, ℕ};
+    ghost use Rattle.std.specs.Arc.{arc_value};
+
+    ghost Value = { List ℕ };
+
+    ghost view = { λ s. arc_value s.bytes };
+}
+
+impl SharedFilter {
+    /// A filter that nobody holds yet.
+    pub fn new(alloc: Global, bytes: Listed<u8>) -> Result<SharedFilter, NoMemory>
+        ensures { IfOk result (λ shared. shared ≡ bytes) }
+    {
+        let bytes = Arc::new(alloc, bytes)?;
+        Ok(SharedFilter { bytes })
+    }
+
+    /// The same filter once more. It isn't copied.
+    pub fn share(&self) -> Result<SharedFilter, NoMemory>
+        ensures { IfOk result (λ shared. shared ≡ self.now) }
+    {
+        let bytes = Arc::try_clone(&self.bytes)?;
+        Ok(SharedFilter { bytes })
+    }
+
+    /// Its bytes.
+    pub fn as_slice(&self) -> &[u8]
+        ensures { result.now ≡ self.now }
+    {
+        self.bytes.as_slice()
     }
 }
 

@@ -1,5 +1,5 @@
 -- Each piece is answered before the next one is read.
-use Rattle.std.proofs.Common.{◌≡◌, ℕ, ℤ, zero, suc, false, ◌≤◌, List, [], ◌++◌, Option, Some, None, Ok, refl, sym, ap, ◌∙◌, subst, append_assoc}
+use Rattle.std.proofs.Common.{◌≡◌, ℕ, ℤ, zero, suc, false, ◌≤◌, List, [], ◌++◌, length, Option, Some, None, Ok, refl, sym, ap, ◌∙◌, subst, append_assoc}
 use Rattle.std.specs.Prelude.{IfSome}
 use Rattle.std.proofs.lemmas.List.{append_cancel_right}
 use Rattle.cf_block.specs.declared.tx.Block.{Block}
@@ -9,7 +9,7 @@ use Rattle.cf_server.specs.declared.answering.Serving.{Serving}
 use Rattle.cf_server.specs.declared.outcome.ServeEnd.TheVariants.{Closed}
 use Rattle.cf_server.specs.Serving.{Whole}
 use Rattle.cf_server.specs.Taking.{Midway}
-use Rattle.cf_server.specs.Turns.{IsInTurn, AnswersFirst, owed_for}
+use Rattle.cf_server.specs.Turns.{IsInTurn, AnswersFirst, most_piece, owed_for}
 use Rattle.cf_server.proofs.Steps.{if_some_on, served_so_far, unread}
 
 -- the bytes of a list that is told
@@ -51,15 +51,15 @@ module _ {C : Type 0} (left written : C → Option (List ℕ)) (owed : List ℕ 
   first_turn bytes before now told = record { pieces = zero; taken = []; told = unread (Some bytes) now told; turns = refl }
 
   -- one piece more
-  pub next_turn : (bytes piece : List ℕ) (before between after : Option (List ℕ)) (at : C) → AnswersFirst left written owed bytes before (left at)
+  pub next_turn : (bytes piece : List ℕ) (before between after : Option (List ℕ)) (at : C) → length piece ≤ most_piece → AnswersFirst left written owed bytes before (left at)
       → ((t : List ℕ) → Some bytes ≡ with_front t (left at) → Whole before (written at) (owed t)) → left at ≡ with_front piece between → after ≡ between
       → AnswersFirst left written owed bytes before after
   unfolding IsInTurn
-  next_turn bytes piece before between after at a whole read same = record {
+  next_turn bytes piece before between after at few a whole read same = record {
     pieces = suc a.pieces;
     taken = a.taken ++ piece;
     told = a.told ∙ ap (with_front a.taken) (read ∙ ap (with_front piece) (sym same)) ∙ twice a.taken piece after;
-    turns = (a.taken, piece, at, refl, a.told, whole a.taken a.told, a.turns);
+    turns = (a.taken, piece, at, refl, few, a.told, whole a.taken a.told, a.turns);
   }
 
   -- a read that gave nothing
@@ -79,11 +79,11 @@ turn_ends left written told z now nonce blocks piece before at after same turns 
 
 -- a piece that was answered
 pub turn_goes : {C : Type 0} (left written : C → Option (List ℕ)) (told : Option (List ℕ)) (blocks : List Block) (z : ℤ) (nonce : ℕ) (piece : List ℕ) (before between after : Option (List ℕ)) (at : C) (k : ℕ) (v : List ℕ) (s : Serving)
-    → IfSome told (λ bytes. Midway blocks (record { time = z; nonce = nonce; seen = false }) bytes (left at) k v s before (written at)) → 1 ≤ k → front_of v ≡ Ok None
+    → length piece ≤ most_piece → IfSome told (λ bytes. Midway blocks (record { time = z; nonce = nonce; seen = false }) bytes (left at) k v s before (written at)) → 1 ≤ k → front_of v ≡ Ok None
     → IfSome told (λ bytes. AnswersFirst left written (owed_for z nonce blocks) bytes before (left at)) → left at ≡ with_front piece between → after ≡ between
     → IfSome told (λ bytes. AnswersFirst left written (owed_for z nonce blocks) bytes before after)
-turn_goes left written told blocks z nonce piece before between after at k v s midway some waits turns read kept =
+turn_goes left written told blocks z nonce piece before between after at k v s few midway some waits turns read kept =
     if_two told (λ bytes. Midway blocks (record { time = z; nonce = nonce; seen = false }) bytes (left at) k v s before (written at)) (λ bytes. AnswersFirst left written (owed_for z nonce blocks) bytes before (left at))
     (λ bytes. AnswersFirst left written (owed_for z nonce blocks) bytes before after)
-    (λ bytes is way turn. next_turn left written (owed_for z nonce blocks) bytes piece before between after at turn (all_written blocks z nonce bytes (left at) k v s before (written at) way some waits) read kept)
+    (λ bytes is way turn. next_turn left written (owed_for z nonce blocks) bytes piece before between after at few turn (all_written blocks z nonce bytes (left at) k v s before (written at) way some waits) read kept)
     midway turns

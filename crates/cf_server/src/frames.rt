@@ -4,7 +4,7 @@ ghost use Rattle.std.specs.Option.{option_to_list};
 ghost use Rattle.cf_block.specs.declared.tx.Block.{Block};
 ghost use Rattle.cf_block.specs.{first_block};
 ghost use Rattle.cf_frame.specs.{IsFrame, spelling};
-ghost use Rattle.cf_msg.specs.declared.msg.Msg.TheVariants.{Block as BlockMessage, Headers as HeadersMessage};
+ghost use Rattle.cf_msg.specs.declared.msg.Msg.TheVariants.{Block as BlockMessage, Cfilter as CfilterMessage, Headers as HeadersMessage};
 ghost use Rattle.cf_msg.specs.{IsWithinLimits, frame_of, payload_of};
 ghost use Rattle.cf_chain.specs.{first_filtered, filters_of, filter_at, IsGoodChain, all_blocks, block_height, version_reply, cfilter_of, cfheaders_of, cfcheckpt_of, header_or_zeros as header_shown, header_before as header_shown_before, thousands};
 ghost use Rattle.cf_headers.specs.{height_limit};
@@ -155,6 +155,22 @@ fn block_bytes(alloc: Global, index: &Index, height: u32) -> Result<Vec<u8>, NoM
     }
 }
 
+/// The bytes of the frame of a basic filter, by its block's hash.
+pub fn filter_bytes(alloc: Global, block: &Hash32, filter: &[u8]) -> Result<Vec<u8>, NoMemory>
+    requires { length filter.now ≤ 3999900 }
+    ensures { IfOk result (λ bytes. bytes.items ≡ spelling (frame_of (CfilterMessage 0 block.now filter.now))) }
+{
+    let bytes = Bytes::from_vec(Vec::from_slice(alloc, filter)?);
+    message_bytes(
+        alloc,
+        &Msg::Cfilter {
+            filter: BASIC,
+            block: *block,
+            bytes,
+        },
+    )
+}
+
 fn cfilter_bytes(alloc: Global, index: &Index, height: u32) -> Result<Vec<u8>, NoMemory>
     requires good { IsGoodChain index.now }
     requires there { height ≤ length index.now }
@@ -164,15 +180,7 @@ fn cfilter_bytes(alloc: Global, index: &Index, height: u32) -> Result<Vec<u8>, N
     let (Some(block), Some(filter)) = (index.hash(height), index.filter(height)) else {
         unreachable!()
     };
-    let bytes = Bytes::from_vec(Vec::from_slice(alloc, filter)?);
-    message_bytes(
-        alloc,
-        &Msg::Cfilter {
-            filter: BASIC,
-            block,
-            bytes,
-        },
-    )
+    filter_bytes(alloc, &block, filter)
 }
 
 // The filter header at a height, or zeros above the chain.

@@ -10,7 +10,7 @@ mod reply;
 mod serve;
 
 pub use answering::{Serving, answer};
-pub use frames::{message_bytes, write_reply};
+pub use frames::{filter_bytes, message_bytes, write_reply};
 pub use laws::laws_of_courses;
 pub use outcome::ServeEnd;
 pub use reply::{Replies, Reply};

@@ -1,8 +1,9 @@
 //! Serving a connection.
-ghost use Rattle.std.specs.Prelude.{◌≡◌, ◌≤◌, ◌++◌, [], IfSome, IfErr, OnOk};
+ghost use Rattle.std.specs.Prelude.{◌≡◌, ◌≤◌, ◌++◌, ◌||◌, [], IfOk, IfSome, IfErr, OnOk};
 ghost use Rattle.cf_frame.specs.{spelling};
-ghost use Rattle.cf_msg.specs.{frame_of, message_of as message_in};
-ghost use Rattle.cf_server.specs.Replies.{IsReplyOf, AreRepliesOf, message_of, messages_of};
+ghost use Rattle.cf_msg.specs.{frame_of, is_version as version_is, message_of as message_in};
+ghost use Rattle.cf_chain.specs.{replies_to};
+ghost use Rattle.cf_server.specs.Replies.{Adds, IsReplyOf, AreRepliesOf, message_of, messages_of};
 ghost use Rattle.cf_server.specs.Serving.{IsServed, Counts, Ends, text_of};
 ghost use Rattle.cf_server.specs.Turns.{AnswersFirst, owed_for};
 ghost use Rattle.cf_server.specs.Taking.{Sends, CountsWrites, AnswersFrame, FindsFrame, TakesFrames, Idles, ComesInside};
@@ -10,12 +11,12 @@ ghost use Rattle.cf_server.specs.Taking.{Sends, CountsWrites, AnswersFrame, Find
 use crate::answering::{Serving, answer};
 use crate::frames::write_reply;
 use crate::outcome::ServeEnd;
-use crate::reply::{Replies, Reply};
+use crate::reply::{Planned, Replies, Reply};
 use cf_bytes::{NoMemory, Refused};
 use cf_conn::{Duplex, send_all};
 use cf_frame::{Frame, Framer};
 use cf_index::Index;
-use cf_msg::read;
+use cf_msg::{Msg, read};
 use std::alloc::Global;
 
 /// The most frames that are taken of one connection.
@@ -68,7 +69,7 @@ fn send_replies<C: Duplex>(
     index: &Index,
     conn: &mut C,
     served: &Serving,
-    replies: &[Reply],
+    replies: &Planned,
 ) -> Result<(), ServeEnd>
     requires { AreRepliesOf index.now replies.now }
     ensures sends { Sends result (C.written conn.old) (C.written conn.new)
@@ -79,8 +80,8 @@ fn send_replies<C: Duplex>(
     ensures read_faults { C.Source.faults conn.new ≡ C.Source.faults conn.old }
 {
     let mut waiting = Vec::new(alloc);
-    for reply in replies {
-        put_reply(alloc, index, served, *reply, &mut waiting)?;
+    for place in 0..replies.len() {
+        put_reply(alloc, index, served, replies.at(place), &mut waiting)?;
         if waiting.len() >= TOGETHER {
             flush(conn, &mut waiting)?;
         }
@@ -88,29 +89,45 @@ fn send_replies<C: Duplex>(
     flush(conn, &mut waiting)
 }
 
-// Reads a frame's message, and writes the replies to it.
+// The replies to a message, which is let go.
+fn plan_replies(
+    alloc: Global,
+    index: &Index,
+    served: &mut Serving,
+    msg: Msg,
+) -> Result<Planned, NoMemory>
+    ensures adds { IfOk result (λ planned. Adds served.old index.now [] planned
+        (replies_to served.old.time served.old.nonce index.now served.old.seen msg)) }
+    ensures seen { OnOk result (served.new ≡ record served.old { seen = version_is msg || served.old.seen }) }
+{
+    let mut replies = Replies::new(alloc);
+    answer(index, served, &msg, &mut replies)?;
+    Planned::of(alloc, replies)
+}
+
+// Reads a frame's message, and writes the replies to it. Neither is held while they are written.
 fn answer_frame<C: Duplex>(
     alloc: Global,
     index: &Index,
     conn: &mut C,
     served: &mut Serving,
-    frame: &Frame,
+    frame: Frame,
 ) -> Result<(), ServeEnd>
-    ensures answers { AnswersFrame result index.now (message_in frame.now) served.old served.new
+    ensures answers { AnswersFrame result index.now (message_in frame) served.old served.new
         (C.written conn.old) (C.written conn.new) }
     ensures count { CountsWrites result (C.Sink.faults conn.old) (C.Sink.faults conn.new) }
     ensures left { C.left conn.new ≡ C.left conn.old }
     ensures ended { C.ended conn.new ≡ C.ended conn.old }
     ensures read_faults { C.Source.faults conn.new ≡ C.Source.faults conn.old }
 {
-    let msg = match read(alloc, frame) {
+    let msg = match read(alloc, &frame) {
         Ok(msg) => msg,
         Err(Refused::No(fault)) => return Err(ServeEnd::Malformed(fault)),
         Err(Refused::NoMemory) => return Err(ServeEnd::NoMemory),
     };
-    let mut replies = Replies::new(alloc);
-    answer(index, served, &msg, &mut replies)?;
-    send_replies(alloc, index, conn, served, replies.as_slice())
+    drop(frame);
+    let replies = plan_replies(alloc, index, served, msg)?;
+    send_replies(alloc, index, conn, served, &replies)
 }
 
 // What is kept of a connection: the bytes that wait for the rest of their frame, what is known of the peer, and how
@@ -151,7 +168,7 @@ fn take_frames<C: Duplex>(
     ensures read_faults { C.Source.faults conn.new ≡ C.Source.faults conn.old }
 {
     while let Some(frame) = next_frame(&mut session.framer)? {
-        answer_frame(alloc, index, conn, &mut session.served, &frame)?;
+        answer_frame(alloc, index, conn, &mut session.served, frame)?;
         session.left -= 1;
         if session.left == 0 {
             return Err(ServeEnd::Tired);

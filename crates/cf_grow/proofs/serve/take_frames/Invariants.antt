@@ -1,11 +1,11 @@
 use Rattle.std.proofs.Common.{◌≡◌, ◌≤◌}
-use Rattle.cf_grow.specs.Growing.{HasMomentOf, mark_of}
+use Rattle.cf_grow.specs.Growing.{HasMomentOf, begun_in, mark_of}
 use Rattle.cf_grow.specs.Serving.{Moves}
 use Rattle.cf_grow.proofs.serve.take_frames.Given as goal
 
 abbrev pub invariant-loop-frame : goal.invariant-loop-frame
 invariant-loop-frame g l = record {
-  moves : Moves l.fn.session.mark.served.time l.fn.session.mark.served.nonce l.fn.session.left l.session.left l.fn.session.framer l.session.framer
+  moves : Moves (begun_in l.fn.session.mark) l.fn.session.mark.served.nonce l.fn.session.left l.session.left l.fn.session.framer l.session.framer
       (mark_of l.fn.session.mark) (mark_of l.session.mark) (g.C.Sink.written l.fn.conn) (g.C.Sink.written l.conn);
   moment : HasMomentOf l.fn.session.mark l.session.mark;
   room : 1 ≤ l.session.left;

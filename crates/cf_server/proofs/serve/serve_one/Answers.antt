@@ -67,7 +67,7 @@ returns-in-Err-take_piece-clause-in_turn g c =
     let ended = c.in-Err-take_piece in
     subst (λ (y : ℤ). IfSome told (λ bytes. AnswersFirst g.C.Source.left g.C.Sink.written (owed_for y c.args.nonce c.args.index.now) bytes (g.C.Sink.written c.args.conn.now) after)) (to_z-of_z w64 c.args.moment c.ranges.moment)
     (turn_goes g.C.Source.left g.C.Sink.written told c.args.index.now (to_z w64 (of_z w64 c.args.moment)) c.args.nonce (take c.in-Ok.n c.receive.new.into) (g.C.Sink.written c.args.conn.now) (g.C.Source.left c.receive.new.self) after
-    c.loop-session.conn session.left session.framer session.served c.loop-session.invariant.midway c.loop-session.invariant.room c.loop-session.invariant.waiting c.loop-session.invariant.turns c.in-Ok.ensures.ok ended.ensures.left)
+    c.loop-session.conn session.left session.framer session.served (omega (arith, length-take-le c.in-Ok.n c.receive.new.into c.in-Ok.ensures.some, c.in-Ok.ensures.some)) c.loop-session.invariant.midway c.loop-session.invariant.room c.loop-session.invariant.waiting c.loop-session.invariant.turns c.in-Ok.ensures.ok ended.ensures.left)
 
 pub loop-session-preserved : goal.loop-session-preserved
 loop-session-preserved g c =
@@ -82,7 +82,7 @@ loop-session-preserved g c =
       midway = midway_goes told c.args.index.now start (take c.in-Ok.n c.receive.new.into) (g.C.Source.left c.loop-session.conn) between (g.C.Source.left c.take_piece.new.conn) session.left next.left session.framer next.framer session.served next.served
           (g.C.Sink.written c.args.conn.now) (g.C.Sink.written c.loop-session.conn) (g.C.Sink.written c.receive.new.self) (g.C.Sink.written c.take_piece.new.conn) i.midway c.in-Ok.ensures.ok took.ensures.left c.in-Ok.ensures.written took.ensures.takes;
       turns = turn_goes g.C.Source.left g.C.Sink.written told c.args.index.now start.time start.nonce (take c.in-Ok.n c.receive.new.into) (g.C.Sink.written c.args.conn.now) between (g.C.Source.left c.take_piece.new.conn) c.loop-session.conn
-          session.left session.framer session.served i.midway i.room i.waiting i.turns c.in-Ok.ensures.ok took.ensures.left;
+          session.left session.framer session.served (omega (arith, length-take-le c.in-Ok.n c.receive.new.into c.in-Ok.ensures.some, c.in-Ok.ensures.some)) i.midway i.room i.waiting i.turns c.in-Ok.ensures.ok took.ensures.left;
       waiting = took.ensures.idles.waiting;
       room = took.ensures.idles.room;
       write_count = took.ensures.count ∙ c.in-Ok.ensures.write_faults ∙ i.write_count;
