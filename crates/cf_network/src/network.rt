@@ -1,10 +1,11 @@
 //! Wires that tell the user what passes them.
-ghost use Rattle.std.specs.Prelude.{◌≡◌, ◌⊎◌, min, IfOk, None, [], false};
+ghost use Rattle.std.specs.Prelude.{◌≡◌, ◌⊎◌, length, min, IfOk, None, [], false};
 ghost use Rattle.cf_bytes.specs.{HasRisen};
 ghost use Rattle.cf_hub.specs.{told_of, keeps_of};
 ghost use Rattle.cf_network.specs.Standing.{HasThreads};
 ghost use Rattle.cf_wires.specs.{Tells};
 
+use crate::calls::calls_of;
 use crate::outside::SystemDialer;
 use crate::passed::{Asked, FilterSpan, Passed, Progress, Stand};
 use crate::pulse::{Asker, Bell, Naps};
@@ -28,7 +29,7 @@ use std::time::Clock;
 #[derive(Drop)]
 pub struct Network<R: Wait + Threads + Copy + Drop> {
     teller: &'static Teller,
-    hub: Hub<SystemDialer, Naps<R>, R>,
+    hub: Hub<SystemDialer<R>, Naps<R>, R>,
     // Whether standard error is one.
     on_terminal: bool,
     // Whether it is told at once how a peer comes to stand.
@@ -57,11 +58,12 @@ impl<R: Wait + Threads + Copy + Drop> Model for Network<R> {
 // A hub that has dialled nobody, with threads for so many peers and, where there are any, for its ticker.
 fn hub_of<R: Wait + Threads + Copy + Drop + Send + 'static, K: Spawner>(
     rt: &HostRuntime,
+    dialer: SystemDialer<R>,
     handle: R,
     pulse: Naps<R>,
     spawner: &mut K,
     peers: usize,
-) -> Result<Hub<SystemDialer, Naps<R>, R>, NoMemory>
+) -> Result<Hub<SystemDialer<R>, Naps<R>, R>, NoMemory>
     ensures told { IfOk result (λ h. Tells [] (told_of h.book)) }
     ensures finished { IfOk result (λ h. (told_of h.book).finished ≡ false) }
     ensures keeps { IfOk result (λ h. keeps_of h.book ≡ false) }
@@ -69,7 +71,6 @@ fn hub_of<R: Wait + Threads + Copy + Drop + Send + 'static, K: Spawner>(
         ⊎ HasRisen (K.refusals spawner.old) (K.refusals spawner.new)) }
 {
     let alloc = rt.alloc();
-    let dialer = SystemDialer::new(*rt);
     if peers > 0 {
         return Hub::started(handle, alloc, dialer, pulse, spawner, peers);
     }
@@ -79,25 +80,30 @@ fn hub_of<R: Wait + Threads + Copy + Drop + Send + 'static, K: Spawner>(
 }
 
 impl<R: Wait + Threads + Copy + Drop + Send + 'static> Network<R> {
-    /// Peers of whom none was dialled. For each of so many a thread waits, and one for the ticker, or the spawner's
-    /// count of refusals rose; where there are none no thread is started.
+    /// Peers with these names, of whom none was dialled. For each of them a thread waits, and one for the ticker, or the
+    /// spawner's count of refusals rose; where there are none no thread is started. Each name is called at once, in a
+    /// thread of its own where there is one, and is dialled by taking what that comes to.
     pub fn new<K: Spawner>(
         teller: &'static Teller,
         handle: R,
         spawner: &mut K,
-        peers: usize,
+        names: &[String],
     ) -> Result<Network<R>, NoMemory>
         ensures told { IfOk result (λ n. Tells [] n.told) }
         ensures finished { IfOk result (λ n. n.told.finished ≡ false) }
         ensures keeps { IfOk result (λ n. n.keeps ≡ false) }
-        ensures threads { IfOk result (λ n. HasThreads peers n (K.refusals spawner.old) (K.refusals spawner.new)) }
+        ensures threads { IfOk result
+            (λ n. HasThreads (length names.now) n (K.refusals spawner.old) (K.refusals spawner.new)) }
     {
         let rt = teller.runtime();
         let bell = Arc::new(rt.alloc(), Bell::new())?;
         let pulse = Naps::new(rt, handle, Arc::try_clone(&bell)?);
+        let theirs = Arc::try_clone(&bell)?;
+        let calls = calls_of(&rt, spawner, names)?;
+        let dialer = SystemDialer::new(rt, handle, calls, theirs);
         Ok(Network {
             teller,
-            hub: hub_of(&rt, handle, pulse, spawner, peers)?,
+            hub: hub_of(&rt, dialer, handle, pulse, spawner, names.len())?,
             on_terminal: rt.stderr().is_terminal(),
             at_once: false,
             asker: Asker::new(bell),
@@ -118,8 +124,8 @@ impl<R: Wait + Threads + Copy + Drop> Network<R> {
     // Tells how far it has come.
     fn tell_progress(&self, progress: Progress) -> io::Result<()> {
         eprintln!(self.teller;
-            "cf: peers connected: {}; best height: {}; filters: {}; blocks: {}",
-            progress.connected, progress.height, progress.filters, progress.blocks
+            "cf: peers connected: {}; headers: {}; filters: {}; blocks: {}",
+            progress.connected, progress.headers, progress.filters, progress.blocks
         )
     }
 

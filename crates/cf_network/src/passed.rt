@@ -103,7 +103,7 @@ pub(crate) struct Progress {
     /// How many peers are connected.
     pub(crate) connected: usize,
     /// The most headers that a peer has brought.
-    pub(crate) height: u32,
+    pub(crate) headers: u32,
     /// How many filters the peers have brought together.
     pub(crate) filters: u32,
     /// How many blocks they have.
@@ -272,14 +272,14 @@ impl Passed {
     fn progress(&self) -> Progress {
         Progress {
             connected: self.connected(),
-            height: self.height(),
+            headers: self.headers(),
             filters: self.filters(),
             blocks: self.blocks(),
         }
     }
 
     // The most headers that a peer has brought.
-    fn height(&self) -> u32 {
+    fn headers(&self) -> u32 {
         let mut most = 0;
         for counts in &self.counts {
             most = counts.headers().max(most);

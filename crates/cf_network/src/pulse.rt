@@ -1,4 +1,5 @@
-//! The pulse of `sync`, which tells a second only where one is asked for, and ends at once when it is told to.
+//! The pulse of `sync`, which tells a second only where one is asked for, and ends at once when it is told to. Who reads
+//! at its pace waits for its ticks.
 ghost use Rattle.std.specs.Prelude.{None};
 
 use cf_outside::Pulse;
@@ -22,10 +23,16 @@ fn second() -> Duration {
     Duration::from_secs(1)
 }
 
-/// What a pulse is to do, as those who wait for it see it.
+// What stands in the low half of a number.
+fn low_half(n: u64) -> u32 {
+    u32::try_from(n % (1 << 32)).unwrap_or(0)
+}
+
+/// What a pulse is to do, as those who wait for it see it, and how often it has told its time.
 #[derive(Drop)]
 pub(crate) struct Bell {
     state: AtomicU64,
+    ticks: AtomicU64,
 }
 
 impl Bell {
@@ -33,6 +40,7 @@ impl Bell {
     pub(crate) fn new() -> Bell {
         Bell {
             state: AtomicU64::new(HELD),
+            ticks: AtomicU64::new(0),
         }
     }
 
@@ -54,6 +62,28 @@ impl Bell {
     fn ring(&self) {
         self.state.store(RUNG, Ordering::SeqCst);
         self.state.wake_all();
+        self.tick();
+    }
+
+    // Counts a tick, and wakes who waits for that.
+    fn tick(&self) {
+        self.ticks.fetch_add(1, Ordering::SeqCst);
+        self.ticks.wake_all();
+    }
+
+    /// How many ticks there were.
+    pub(crate) fn ticks(&self) -> u64 {
+        self.ticks.load(Ordering::SeqCst)
+    }
+
+    /// Waits until there were not so many ticks any more, or until it is rung.
+    pub(crate) fn wait_for_tick<R: Wait>(&self, handle: &R, ticks: u64) {
+        for _ in handle.forever() {
+            if self.is_rung() || self.ticks() != ticks {
+                return;
+            }
+            self.ticks.park(handle, low_half(ticks));
+        }
     }
 
     // Whether it was rung.
@@ -163,6 +193,7 @@ impl<R: Wait + Drop> Pulse for Naps<R> {
     fn wait(&mut self) -> u32 {
         self.bell.take(&self.handle);
         self.sleep();
+        self.bell.tick();
         1
     }
 }
