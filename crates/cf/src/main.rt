@@ -54,7 +54,7 @@ fn run_command<R: Wait + Threads + Sync + Copy + Drop + Send + 'static, K: Spawn
     let Ok(dials) = read_dials(alloc, words) else {
         return told(teller, words, Status::NoMemory, &None);
     };
-    let Ok(edge) = Edge::new(teller, handle, spawner, dials.peers) else {
+    let Ok(edge) = Edge::new(teller, handle, spawner, dials.names.as_slice()) else {
         return told(teller, words, Status::NoMemory, &None);
     };
     let Edge {

@@ -2,9 +2,13 @@
 ghost use Rattle.std.specs.Prelude.{◌≡◌, ◌⊎◌};
 ghost use Rattle.cf_bytes.specs.{HasRisen};
 
+use crate::outside::Opened;
 use cf_bytes::NoMemory;
 use cf_outside::Call;
 use cf_tasks::Spawner;
+use std::io;
+use std::sync::Wait;
+use std::thread::Threads;
 
 /// Calls of peers that were begun, each in a thread of its own, and are not taken yet.
 #[derive(Drop)]
@@ -14,11 +18,24 @@ pub(crate) struct Calls {
 }
 
 impl Calls {
-    /// Takes the next call, if it is one of this name.
-    pub(crate) fn next(&mut self, name: &str) -> Option<Call<HostRuntime>> {
+    // Takes the next call, if it is one of this name.
+    fn next(&mut self, name: &str) -> Option<Call<HostRuntime>> {
         match self.waiting.pop() {
             Some(Some(call)) if call.is_to(name) => Some(call),
             _ => None,
+        }
+    }
+
+    /// Waits for what the next call comes to, if it is one of this name.
+    pub(crate) fn answer<R: Wait + Threads>(
+        &mut self,
+        handle: &R,
+        name: &str,
+    ) -> Option<io::Result<Opened>> {
+        let call = self.next(name)?;
+        match call.answer(handle) {
+            Ok((source, writer)) => Some(Ok(Opened { source, writer })),
+            Err(reason) => Some(Err(reason)),
         }
     }
 }

@@ -5,7 +5,7 @@ ghost use Rattle.cf_hub.specs.{told_of, keeps_of};
 ghost use Rattle.cf_network.specs.Standing.{HasThreads};
 ghost use Rattle.cf_wires.specs.{Tells};
 
-use crate::calls::calls_of;
+use crate::calls::{Calls, calls_of};
 use crate::outside::SystemDialer;
 use crate::passed::{Asked, FilterSpan, Passed, Progress, Stand};
 use crate::pulse::{Asker, Bell, Naps};
@@ -29,7 +29,10 @@ use std::time::Clock;
 #[derive(Drop)]
 pub struct Network<R: Wait + Threads + Copy + Drop> {
     teller: &'static Teller,
-    hub: Hub<SystemDialer<R>, Naps<R>, R>,
+    // The handle by which calls are waited for.
+    handle: R,
+    calls: Calls,
+    hub: Hub<SystemDialer, Naps<R>, R>,
     // Whether standard error is one.
     on_terminal: bool,
     // Whether it is told at once how a peer comes to stand.
@@ -58,12 +61,12 @@ impl<R: Wait + Threads + Copy + Drop> Model for Network<R> {
 // A hub that has dialled nobody, with threads for so many peers and, where there are any, for its ticker.
 fn hub_of<R: Wait + Threads + Copy + Drop + Send + 'static, K: Spawner>(
     rt: &HostRuntime,
-    dialer: SystemDialer<R>,
+    dialer: SystemDialer,
     handle: R,
     pulse: Naps<R>,
     spawner: &mut K,
     peers: usize,
-) -> Result<Hub<SystemDialer<R>, Naps<R>, R>, NoMemory>
+) -> Result<Hub<SystemDialer, Naps<R>, R>, NoMemory>
     ensures told { IfOk result (λ h. Tells [] (told_of h.book)) }
     ensures finished { IfOk result (λ h. (told_of h.book).finished ≡ false) }
     ensures keeps { IfOk result (λ h. keeps_of h.book ≡ false) }
@@ -100,9 +103,11 @@ impl<R: Wait + Threads + Copy + Drop + Send + 'static> Network<R> {
         let pulse = Naps::new(rt, handle, Arc::try_clone(&bell)?);
         let theirs = Arc::try_clone(&bell)?;
         let calls = calls_of(&rt, spawner, names)?;
-        let dialer = SystemDialer::new(rt, handle, calls, theirs);
+        let dialer = SystemDialer::new(rt, theirs);
         Ok(Network {
             teller,
+            handle,
+            calls,
             hub: hub_of(&rt, dialer, handle, pulse, spawner, names.len())?,
             on_terminal: rt.stderr().is_terminal(),
             at_once: false,
@@ -141,11 +146,18 @@ impl<R: Wait + Threads + Copy + Drop> Network<R> {
         }
     }
 
-    // Tells how a peer has come to stand, and how many are connected, where that is told at once.
-    fn tell_change(&self, p: PeerNo) -> io::Result<()> {
-        if !self.at_once {
-            return Ok(());
+    // Tells how a peer has come to stand, and how many are connected, where that is told at once and was not told yet.
+    fn tell_change(&mut self, p: PeerNo)
+        ensures same { self.new ≡ self.old }
+    {
+        if self.at_once && !self.is_told(p) {
+            let _told = self.tell_so(p);
+            self.passed.note_told(p);
         }
+    }
+
+    // Tells how a peer stands, and how many are connected.
+    fn tell_so(&self, p: PeerNo) -> io::Result<()> {
         match self.passed.stand(p) {
             Some(Stand::Connected) => eprintln!(self.teller; "cf: peer {}: connected", p.0),
             Some(stand) => eprintln!(self.teller;
@@ -158,10 +170,12 @@ impl<R: Wait + Threads + Copy + Drop> Network<R> {
     }
 
     // Tells of a peer that has gone, unless it was closed, which was told then.
-    fn tell_gone(&self, delivery: &Delivery) {
+    fn tell_gone(&mut self, delivery: &Delivery)
+        ensures same { self.new ≡ self.old }
+    {
         if let Delivery::Gone(p) = delivery {
             if !self.is_closed(*p) {
-                let _told = self.tell_change(*p);
+                self.tell_change(*p);
             }
         }
     }
@@ -192,8 +206,16 @@ impl<R: Wait + Threads + Copy + Drop> Network<R> {
         )
     }
 
-    /// Tells how a peer stands, if it was dialled.
+    /// Whether it was told at once that a peer is lost, with all that is known of why.
+    pub fn is_told(&self, p: PeerNo) -> bool {
+        self.passed.is_told(p)
+    }
+
+    /// Tells how a peer stands, if it was dialled, and that it is lost was not told at once.
     pub fn tell_stand(&self, p: PeerNo) -> io::Result<()> {
+        if self.is_told(p) {
+            return Ok(());
+        }
         match self.passed.stand(p) {
             Some(stand) => eprintln!(self.teller; "cf: peer {}: {stand}", p.0),
             None => Ok(()),
@@ -215,12 +237,15 @@ impl<R: Wait + Threads + Copy + Drop> Wires for Network<R> {
     }
 
     fn dial(&mut self, name: &str) -> Result<PeerNo, WireFail> {
+        if let Some(opened) = self.calls.answer(&self.handle, name) {
+            self.hub.dialer().hand(opened);
+        }
         let known = self.hub.dialer().failed().len();
         let answer = self.hub.dial(name);
         match answer {
             Ok(p) => {
                 self.passed.note_stand(p, Stand::Connected);
-                let _told = self.tell_change(p);
+                self.tell_change(p);
             }
             Err(WireFail::Failed) => {
                 self.passed.note_not_dialled();
@@ -243,7 +268,7 @@ impl<R: Wait + Threads + Copy + Drop> Wires for Network<R> {
     fn close(&mut self, p: PeerNo) {
         self.passed.note_closed(p);
         self.hub.close(p);
-        let _told = self.tell_change(p);
+        self.tell_change(p);
     }
 
     fn next(&mut self) -> Result<Delivery, NoMemory> {

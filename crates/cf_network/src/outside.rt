@@ -2,42 +2,45 @@
 ghost use Rattle.std.specs.Prelude.{◌≡◌, ◌≤◌, false, IfOk, OnOk, OnErr};
 ghost use Rattle.cf_bytes.specs.{HasRisen};
 
-use crate::calls::Calls;
 use crate::pacing::PacedSource;
 use crate::pulse::Bell;
 use cf_bytes::Failed;
 use cf_outside::{Dialer, FailedDial, TcpDialer, TcpSource, TcpWriter};
 use std::alloc::Global;
+use std::cell::Cell;
 use std::io;
 use std::io::ErrorKind;
-use std::sync::{Arc, Wait};
-use std::thread::Threads;
+use std::sync::Arc;
 
-/// Opens connections over TCP, by the system: those whose calls were begun by taking what these come to, in their
-/// order. They are read at the pace of a bell's pulse.
+/// A connection that was opened, and neither read nor written.
 #[derive(Drop)]
-pub(crate) struct SystemDialer<R: Wait + Threads + Copy + Drop> {
+pub(crate) struct Opened {
+    pub(crate) source: TcpSource,
+    pub(crate) writer: TcpWriter,
+    pub(crate) ghost open: { source.ended ≡ false },
+    pub(crate) ghost unread: { source.faults ≡ 0 },
+    pub(crate) ghost unwritten: { writer.faults ≡ 0 },
+    pub(crate) ghost unshut: { writer.shut ≡ false },
+}
+
+/// Opens connections over TCP, by the system, or takes those that are handed to it. They are read at the pace of a
+/// bell's pulse.
+#[derive(Drop)]
+pub(crate) struct SystemDialer {
     rt: HostRuntime,
-    // The handle by which it waits.
-    handle: R,
     tcp: TcpDialer<HostRuntime>,
-    calls: Calls,
+    // What the next dial answers.
+    handed: Cell<Option<io::Result<Opened>>>,
     bell: Arc<Bell, Global>,
 }
 
-impl<R: Wait + Threads + Copy + Drop> SystemDialer<R> {
-    /// A dialer by this runtime, of which these calls were begun; no dial has failed yet.
-    pub(crate) fn new(
-        rt: HostRuntime,
-        handle: R,
-        calls: Calls,
-        bell: Arc<Bell, Global>,
-    ) -> SystemDialer<R> {
+impl SystemDialer {
+    /// A dialer by this runtime; no dial has failed yet.
+    pub(crate) fn new(rt: HostRuntime, bell: Arc<Bell, Global>) -> SystemDialer {
         SystemDialer {
             rt,
-            handle,
             tcp: TcpDialer::new(rt, rt.alloc()),
-            calls,
+            handed: Cell::new(None),
             bell,
         }
     }
@@ -47,19 +50,23 @@ impl<R: Wait + Threads + Copy + Drop> SystemDialer<R> {
         self.tcp.failed()
     }
 
-    // Opens a connection, by its call where that was begun.
+    /// The next dial is to answer this.
+    pub(crate) fn hand(&self, answer: io::Result<Opened>) {
+        self.handed.set(Some(answer));
+    }
+
+    // Opens a connection, or takes the one that was handed in.
     fn open(&mut self, name: &str) -> Result<(TcpSource, TcpWriter), Failed>
-        ensures new { IfOk result (λ c. (c.0.ended ≡ false) × (c.0.faults ≡ 0) × (c.1.faults ≡ 0) × (c.1.shut ≡ false)) }
+        ensures new { IfOk result
+            (λ c. (c.0.ended ≡ false) × (c.0.faults ≡ 0) × (c.1.faults ≡ 0) × (c.1.shut ≡ false)) }
         ensures kept { OnOk result (self.new.tcp.faults ≡ self.old.tcp.faults) }
         ensures cause { OnErr result (HasRisen self.old.tcp.faults self.new.tcp.faults) }
         ensures later { self.old.tcp.faults ≤ self.new.tcp.faults }
     {
-        let Some(call) = self.calls.next(name) else {
-            return self.tcp.dial(name);
-        };
-        match call.answer(&self.handle) {
-            Ok(both) => Ok(both),
-            Err(reason) => {
+        match self.handed.replace(None) {
+            None => self.tcp.dial(name),
+            Some(Ok(Opened { source, writer })) => Ok((source, writer)),
+            Some(Err(reason)) => {
                 self.tcp.note(name, reason);
                 Err(Failed)
             }
@@ -67,8 +74,8 @@ impl<R: Wait + Threads + Copy + Drop> SystemDialer<R> {
     }
 }
 
-impl<R: Wait + Threads + Copy + Drop> Dialer for SystemDialer<R> {
-    type Read = PacedSource<R>;
+impl Dialer for SystemDialer {
+    type Read = PacedSource;
 
     type Write = TcpWriter;
 
@@ -76,13 +83,13 @@ impl<R: Wait + Threads + Copy + Drop> Dialer for SystemDialer<R> {
 
     ghost dials = { λ _ _ _ _. Unit {0} };
 
-    fn dial(&mut self, name: &str) -> Result<(PacedSource<R>, TcpWriter), Failed> {
+    fn dial(&mut self, name: &str) -> Result<(PacedSource, TcpWriter), Failed> {
         let Ok(bell) = Arc::try_clone(&self.bell) else {
             self.tcp.note(name, io::Error::from(ErrorKind::OutOfMemory));
             return Err(Failed);
         };
         let (source, writer) = self.open(name)?;
-        let source = PacedSource::new(self.rt, self.handle, source, bell);
+        let source = PacedSource::new(self.rt, source, bell);
         Ok((source, writer))
     }
 }

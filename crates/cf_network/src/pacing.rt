@@ -7,7 +7,7 @@ use cf_bytes::Failed;
 use cf_conn::Source;
 use cf_outside::TcpSource;
 use std::alloc::Global;
-use std::sync::{Arc, Wait};
+use std::sync::Arc;
 use std::thread;
 use std::time::Duration;
 
@@ -24,10 +24,8 @@ fn pause() -> Duration {
 /// pings in them between two ticks of the pulse is read no further until the next one, or until the pulse is at its
 /// end.
 #[derive(Drop)]
-pub(crate) struct PacedSource<R: Wait> {
+pub(crate) struct PacedSource {
     rt: HostRuntime,
-    // The handle by which it waits.
-    handle: R,
     source: TcpSource,
     bell: Arc<Bell, Global>,
     // How many ticks there were when pings were counted from 0.
@@ -37,19 +35,13 @@ pub(crate) struct PacedSource<R: Wait> {
     is_short: bool,
 }
 
-impl<R: Wait> PacedSource<R> {
+impl PacedSource {
     /// This connection, of which nothing was read yet, at the pace of this bell's pulse.
-    pub(crate) fn new(
-        rt: HostRuntime,
-        handle: R,
-        source: TcpSource,
-        bell: Arc<Bell, Global>,
-    ) -> PacedSource<R>
+    pub(crate) fn new(rt: HostRuntime, source: TcpSource, bell: Arc<Bell, Global>) -> PacedSource
         ensures { result.source ≡ source }
     {
         PacedSource {
             rt,
-            handle,
             source,
             ticks: bell.ticks(),
             bell,
@@ -77,7 +69,7 @@ impl<R: Wait> PacedSource<R> {
             thread::sleep(&self.rt, pause());
         }
         if self.counts.pings() > PINGS {
-            self.bell.wait_for_tick(&self.handle, self.ticks);
+            self.bell.wait_for_tick(&self.rt, self.ticks);
         }
         self.begin_anew();
     }
@@ -91,7 +83,7 @@ impl<R: Wait> PacedSource<R> {
     }
 }
 
-impl<R: Wait> Source for PacedSource<R> {
+impl Source for PacedSource {
     ghost left = { λ _. None };
 
     ghost ended = { λ s. s.source.ended };
@@ -100,8 +92,9 @@ impl<R: Wait> Source for PacedSource<R> {
 
     fn read(&mut self, into: &mut [u8]) -> Result<usize, Failed> {
         self.wait();
+        let room = into.len();
         let n = self.source.read(into)?;
-        self.note(&into[..n], into.len());
+        self.note(&into[..n], room);
         Ok(n)
     }
 }

@@ -7,6 +7,7 @@ use cf_wires::Delivery;
 use std::alloc::Global;
 use std::sync::atomic::{AtomicU64, Ordering};
 use std::sync::{Arc, Wait};
+use std::thread;
 use std::time::{Clock, Duration};
 
 // Nothing is asked for, or what was asked for is waited for.
@@ -23,9 +24,9 @@ fn second() -> Duration {
     Duration::from_secs(1)
 }
 
-// What stands in the low half of a number.
-fn low_half(n: u64) -> u32 {
-    u32::try_from(n % (1 << 32)).unwrap_or(0)
+// How long it is until who waits for a tick looks again.
+fn look() -> Duration {
+    Duration::from_millis(10)
 }
 
 /// What a pulse is to do, as those who wait for it see it, and how often it has told its time.
@@ -62,13 +63,11 @@ impl Bell {
     fn ring(&self) {
         self.state.store(RUNG, Ordering::SeqCst);
         self.state.wake_all();
-        self.tick();
     }
 
-    // Counts a tick, and wakes who waits for that.
+    // Counts a tick.
     fn tick(&self) {
         self.ticks.fetch_add(1, Ordering::SeqCst);
-        self.ticks.wake_all();
     }
 
     /// How many ticks there were.
@@ -76,13 +75,13 @@ impl Bell {
         self.ticks.load(Ordering::SeqCst)
     }
 
-    /// Waits until there were not so many ticks any more, or until it is rung.
-    pub(crate) fn wait_for_tick<R: Wait>(&self, handle: &R, ticks: u64) {
-        for _ in handle.forever() {
+    /// Waits until there were more ticks than so many, or until it is rung.
+    pub(crate) fn wait_for_tick(&self, rt: &HostRuntime, ticks: u64) {
+        for _ in 0..u64::MAX {
             if self.is_rung() || self.ticks() != ticks {
                 return;
             }
-            self.ticks.park(handle, low_half(ticks));
+            thread::sleep(rt, look());
         }
     }
 
