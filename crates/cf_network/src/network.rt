@@ -103,7 +103,7 @@ impl<R: Wait + Threads + Copy + Drop + Send + 'static> Network<R> {
         let pulse = Naps::new(rt, handle, Arc::try_clone(&bell)?);
         let theirs = Arc::try_clone(&bell)?;
         let calls = calls_of(&rt, spawner, names)?;
-        let dialer = SystemDialer::new(rt, theirs);
+        let dialer = SystemDialer::new(rt, theirs)?;
         Ok(Network {
             teller,
             handle,

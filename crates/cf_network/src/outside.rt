@@ -6,10 +6,11 @@ use crate::pacing::PacedSource;
 use crate::pulse::Bell;
 use cf_bytes::Failed;
 use cf_outside::{Dialer, FailedDial, TcpDialer, TcpSource, TcpWriter};
-use std::alloc::Global;
+use std::alloc::{AllocError, Global};
 use std::cell::Cell;
 use std::io;
 use std::io::ErrorKind;
+use std::rc::Rc;
 use std::sync::Arc;
 
 /// A connection that was opened, and neither read nor written.
@@ -30,19 +31,22 @@ pub(crate) struct SystemDialer {
     rt: HostRuntime,
     tcp: TcpDialer<HostRuntime>,
     // What the next dial answers.
-    handed: Cell<Option<io::Result<Opened>>>,
+    handed: Rc<Cell<Option<io::Result<Opened>>>, Global>,
     bell: Arc<Bell, Global>,
 }
 
 impl SystemDialer {
     /// A dialer by this runtime; no dial has failed yet.
-    pub(crate) fn new(rt: HostRuntime, bell: Arc<Bell, Global>) -> SystemDialer {
-        SystemDialer {
+    pub(crate) fn new(
+        rt: HostRuntime,
+        bell: Arc<Bell, Global>,
+    ) -> Result<SystemDialer, AllocError> {
+        Ok(SystemDialer {
             rt,
             tcp: TcpDialer::new(rt, rt.alloc()),
-            handed: Cell::new(None),
+            handed: Rc::new(rt.alloc(), Cell::new(None))?,
             bell,
-        }
+        })
     }
 
     /// The dials that failed, in order, but for those whose reason isn't known.
