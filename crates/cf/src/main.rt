@@ -58,7 +58,7 @@ fn run_command<R: Wait + Threads + Sync + Copy + Drop + Send + 'static, K: Spawn
         Ok(listener) => listener,
         Err(status) => return told(teller, words, status, &None),
     };
-    let Ok(edge) = Edge::new(teller, handle, spawner, dials.peers) else {
+    let Ok(edge) = Edge::new(teller, handle, spawner, dials.names.as_slice()) else {
         return told(teller, words, Status::NoMemory, &None);
     };
     let Edge {

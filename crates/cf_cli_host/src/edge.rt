@@ -1,5 +1,5 @@
 //! What a call of the program goes over, made at once.
-ghost use Rattle.std.specs.Prelude.{◌≡◌, IfOk, [], false};
+ghost use Rattle.std.specs.Prelude.{◌≡◌, length, IfOk, [], false};
 ghost use Rattle.cf_network.specs.{HasThreads};
 ghost use Rattle.cf_played.specs.{log_of as played_log, peers_of, keeps_of as has_kept, finished_of as has_finished};
 ghost use Rattle.cf_wires.specs.{Tells, log_of, script_of, failing_of, keeps_of, finished_of};
@@ -23,18 +23,19 @@ pub struct Edge<R: Wait + Threads + Copy + Drop> {
 }
 
 impl<R: Wait + Threads + Copy + Drop + Send + 'static> Edge<R> {
-    /// All of it new. For each of so many peers a thread waits, and one for the ticker, or the spawner's count of
-    /// refusals rose; where there are none no thread is started.
+    /// All of it new. For each of the peers with these names a thread waits, and one for the ticker, or the spawner's
+    /// count of refusals rose; where there are none no thread is started. They are called at once.
     pub fn new<K: Spawner>(
         teller: &'static Teller,
         handle: R,
         spawn: &mut K,
-        peers: usize,
+        names: &[String],
     ) -> Result<Edge<R>, NoMemory>
         ensures told { IfOk result (λ e. Tells [] e.network.told) }
         ensures finished { IfOk result (λ e. e.network.told.finished ≡ false) }
         ensures keeps { IfOk result (λ e. e.network.keeps ≡ false) }
-        ensures threads { IfOk result (λ e. HasThreads peers e.network (K.refusals spawn.old) (K.refusals spawn.new)) }
+        ensures threads { IfOk result
+            (λ e. HasThreads (length names.now) e.network (K.refusals spawn.old) (K.refusals spawn.new)) }
         ensures tape_script { IfOk result (λ e. script_of e.tape ≡ record { dials = []; deliveries = [] }) }
         ensures tape_log { IfOk result (λ e. log_of e.tape ≡ []) }
         ensures tape_failing { IfOk result (λ e. failing_of e.tape ≡ []) }
@@ -49,7 +50,7 @@ impl<R: Wait + Threads + Copy + Drop + Send + 'static> Edge<R> {
         let tape = MemoryWires::new(alloc)?;
         let played = Played::new(alloc)?;
         Ok(Edge {
-            network: Network::new(teller, handle, spawn, peers)?,
+            network: Network::new(teller, handle, spawn, names)?,
             tape,
             played,
         })

@@ -27,29 +27,43 @@ pub fn words_of(rt: &HostRuntime) -> Result<Vec<String>, Status> {
 }
 
 /// What the words ask of the network.
-#[derive(Clone, Copy)]
+#[derive(Drop)]
 pub struct Dials {
-    /// How many peers `sync` or `follow` names; none for another command, and where the words ask for nothing.
-    pub peers: usize,
+    /// The peers that `sync` or `follow` names, in order; none for another command, and where the words ask for nothing.
+    pub names: Vec<String>,
     /// Whether it is `follow`.
     pub stays: bool,
 }
 
+// Copies of these names, in order.
+fn copies_of(alloc: Global, names: &[String]) -> Result<Vec<String>, NoMemory> {
+    let mut copies = Vec::with_capacity(alloc, names.len())?;
+    for name in names {
+        copies.push(String::from_str(alloc, name.as_str())?)?;
+    }
+    Ok(copies)
+}
+
 // What a command asks of the network.
-fn dials_of(command: &Command) -> Dials {
+fn dials_of(alloc: Global, command: &Command) -> Result<Dials, NoMemory> {
     match command {
-        Command::Sync { peers, .. } => Dials {
-            peers: peers.as_slice().len(),
+        Command::Sync { peers, .. } => Ok(Dials {
+            names: copies_of(alloc, peers.as_slice())?,
             stays: false,
-        },
-        Command::Follow { peers, .. } => Dials {
-            peers: peers.as_slice().len(),
+        }),
+        Command::Follow { peers, .. } => Ok(Dials {
+            names: copies_of(alloc, peers.as_slice())?,
             stays: true,
-        },
-        _ => Dials {
-            peers: 0,
-            stays: false,
-        },
+        }),
+        _ => Ok(no_dials(alloc)),
+    }
+}
+
+// Nothing is asked of it.
+fn no_dials(alloc: Global) -> Dials {
+    Dials {
+        names: Vec::new(alloc),
+        stays: false,
     }
 }
 
@@ -60,12 +74,9 @@ fn dials_of(command: &Command) -> Dials {
 /// Where no memory is found to read them.
 pub fn read_dials(alloc: Global, words: &[String]) -> Result<Dials, NoMemory> {
     match read_words(alloc, words) {
-        Ok(command) => Ok(dials_of(&command)),
+        Ok(command) => dials_of(alloc, &command),
         Err(Refused::NoMemory) => Err(NoMemory),
-        Err(Refused::No(_)) => Ok(Dials {
-            peers: 0,
-            stays: false,
-        }),
+        Err(Refused::No(_)) => Ok(no_dials(alloc)),
     }
 }
 

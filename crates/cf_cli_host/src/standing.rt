@@ -23,13 +23,16 @@ fn tell_omits(teller: &Teller, p: u32, end: &PeerEnd, span: &FilterSpan) -> io::
 }
 
 // Tells how a peer stands, what it was asked for where it was late with that, and the block where it was closed for
-// what its filter omits.
+// what its filter omits. One of which it was told at once that it is lost is not told of again.
 fn tell_end<R: Wait + Threads + Copy + Drop>(
     teller: &Teller,
     p: u32,
     end: &PeerEnd,
     network: &Network<R>,
 ) -> io::Result<()> {
+    if network.is_told(PeerNo(p)) {
+        return Ok(());
+    }
     if let Some(asked) = network.waited_for(PeerNo(p)) {
         return eprintln!(teller; "cf: peer {p}: {end}, waiting for {asked}");
     }

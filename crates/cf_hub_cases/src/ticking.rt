@@ -44,15 +44,16 @@ fn is_told_late(
 fn two_ticks<R: Wait + Threads + Copy + Drop + Send + 'static>(
     rt: &HostRuntime,
     handle: R,
-    name: &str,
+    name: String,
     idle: u64,
 ) -> Option<bool> {
     let mut spawner = InThreads::new(handle);
     let teller = Teller::kept(*rt).ok()?;
-    let Ok(mut network) = Network::new(teller, handle, &mut spawner, 1) else {
+    let names = [name];
+    let Ok(mut network) = Network::new(teller, handle, &mut spawner, &names) else {
         return None;
     };
-    let _peer = network.dial(name);
+    let _peer = network.dial(names[0].as_str());
     thread::sleep(rt, Duration::from_secs(idle));
     let start = rt.monotonic();
     let first = tick(&mut network);
@@ -79,7 +80,7 @@ pub(crate) fn answer<R: Host>(rt: HostRuntime, handle: R, row: &str) -> Option<S
     silent.listen("127.0.0.1:0").ok()?;
     let number = listening(&rt, &port)?;
     let name = format!(in alloc; "127.0.0.1:{number}").ok()?;
-    let word = if two_ticks(&rt, handle, name.as_str(), idle)? {
+    let word = if two_ticks(&rt, handle, name, idle)? {
         "passed"
     } else {
         "not yet"

@@ -3,7 +3,7 @@
 /// The bytes of a header within its message: 80 of its own, and a zero.
 const HEADER: u32 = 81;
 
-/// Reads over a peer's frames as their bytes come, and counts the headers, filters and blocks in them.
+/// Reads over a peer's frames as their bytes come, and counts the headers, filters, blocks and pings in them.
 #[derive(Clone, Copy)]
 pub(crate) struct Counts {
     // The first bytes of a frame, as far as they have come: magic, command, length and checksum.
@@ -14,6 +14,7 @@ pub(crate) struct Counts {
     headers: u32,
     filters: u32,
     blocks: u32,
+    pings: u32,
 }
 
 impl Counts {
@@ -26,6 +27,7 @@ impl Counts {
             headers: 0,
             filters: 0,
             blocks: 0,
+            pings: 0,
         }
     }
 
@@ -44,6 +46,16 @@ impl Counts {
         self.blocks
     }
 
+    /// How many pings have begun to come since they were forgotten.
+    pub(crate) fn pings(&self) -> u32 {
+        self.pings
+    }
+
+    /// Counts pings from 0.
+    pub(crate) fn forget_pings(&mut self) {
+        self.pings = 0;
+    }
+
     // The first bytes of a frame have come.
     fn begin(&mut self) {
         let head = self.head;
@@ -58,6 +70,9 @@ impl Counts {
         }
         if command == b"block\0\0\0\0\0\0\0".as_slice() {
             self.blocks = self.blocks.saturating_add(1);
+        }
+        if command == b"ping\0\0\0\0\0\0\0\0".as_slice() {
+            self.pings = self.pings.saturating_add(1);
         }
         self.have = 0;
         self.left = length;

@@ -1,10 +1,11 @@
 //! Wires that tell the user what passes them.
-ghost use Rattle.std.specs.Prelude.{◌≡◌, ◌⊎◌, min, IfOk, None, [], false};
+ghost use Rattle.std.specs.Prelude.{◌≡◌, ◌⊎◌, length, min, IfOk, None, [], false};
 ghost use Rattle.cf_bytes.specs.{HasRisen};
 ghost use Rattle.cf_hub.specs.{told_of, keeps_of};
 ghost use Rattle.cf_network.specs.Standing.{HasThreads};
 ghost use Rattle.cf_wires.specs.{Tells};
 
+use crate::calls::{Calls, calls_of};
 use crate::outside::SystemDialer;
 use crate::passed::{Asked, FilterSpan, Passed, Progress, Stand};
 use crate::pulse::{Asker, Bell, Naps};
@@ -28,6 +29,9 @@ use std::time::Clock;
 #[derive(Drop)]
 pub struct Network<R: Wait + Threads + Copy + Drop> {
     teller: &'static Teller,
+    // The handle by which calls are waited for.
+    handle: R,
+    calls: Calls,
     hub: Hub<SystemDialer, Naps<R>, R>,
     // Whether standard error is one.
     on_terminal: bool,
@@ -57,6 +61,7 @@ impl<R: Wait + Threads + Copy + Drop> Model for Network<R> {
 // A hub that has dialled nobody, with threads for so many peers and, where there are any, for its ticker.
 fn hub_of<R: Wait + Threads + Copy + Drop + Send + 'static, K: Spawner>(
     rt: &HostRuntime,
+    dialer: SystemDialer,
     handle: R,
     pulse: Naps<R>,
     spawner: &mut K,
@@ -69,7 +74,6 @@ fn hub_of<R: Wait + Threads + Copy + Drop + Send + 'static, K: Spawner>(
         ⊎ HasRisen (K.refusals spawner.old) (K.refusals spawner.new)) }
 {
     let alloc = rt.alloc();
-    let dialer = SystemDialer::new(*rt);
     if peers > 0 {
         return Hub::started(handle, alloc, dialer, pulse, spawner, peers);
     }
@@ -79,25 +83,32 @@ fn hub_of<R: Wait + Threads + Copy + Drop + Send + 'static, K: Spawner>(
 }
 
 impl<R: Wait + Threads + Copy + Drop + Send + 'static> Network<R> {
-    /// Peers of whom none was dialled. For each of so many a thread waits, and one for the ticker, or the spawner's
-    /// count of refusals rose; where there are none no thread is started.
+    /// Peers with these names, of whom none was dialled. For each of them a thread waits, and one for the ticker, or the
+    /// spawner's count of refusals rose; where there are none no thread is started. Each name is called at once, in a
+    /// thread of its own where there is one, and is dialled by taking what that comes to.
     pub fn new<K: Spawner>(
         teller: &'static Teller,
         handle: R,
         spawner: &mut K,
-        peers: usize,
+        names: &[String],
     ) -> Result<Network<R>, NoMemory>
         ensures told { IfOk result (λ n. Tells [] n.told) }
         ensures finished { IfOk result (λ n. n.told.finished ≡ false) }
         ensures keeps { IfOk result (λ n. n.keeps ≡ false) }
-        ensures threads { IfOk result (λ n. HasThreads peers n (K.refusals spawner.old) (K.refusals spawner.new)) }
+        ensures threads { IfOk result
+            (λ n. HasThreads (length names.now) n (K.refusals spawner.old) (K.refusals spawner.new)) }
     {
         let rt = teller.runtime();
         let bell = Arc::new(rt.alloc(), Bell::new())?;
         let pulse = Naps::new(rt, handle, Arc::try_clone(&bell)?);
+        let theirs = Arc::try_clone(&bell)?;
+        let calls = calls_of(&rt, spawner, names)?;
+        let dialer = SystemDialer::new(rt, theirs)?;
         Ok(Network {
             teller,
-            hub: hub_of(&rt, handle, pulse, spawner, peers)?,
+            handle,
+            calls,
+            hub: hub_of(&rt, dialer, handle, pulse, spawner, names.len())?,
             on_terminal: rt.stderr().is_terminal(),
             at_once: false,
             asker: Asker::new(bell),
@@ -118,8 +129,8 @@ impl<R: Wait + Threads + Copy + Drop> Network<R> {
     // Tells how far it has come.
     fn tell_progress(&self, progress: Progress) -> io::Result<()> {
         eprintln!(self.teller;
-            "cf: peers connected: {}; best height: {}; filters: {}; blocks: {}",
-            progress.connected, progress.height, progress.filters, progress.blocks
+            "cf: peers connected: {}; headers: {}; filters: {}; blocks: {}",
+            progress.connected, progress.headers, progress.filters, progress.blocks
         )
     }
 
@@ -135,11 +146,18 @@ impl<R: Wait + Threads + Copy + Drop> Network<R> {
         }
     }
 
-    // Tells how a peer has come to stand, and how many are connected, where that is told at once.
-    fn tell_change(&self, p: PeerNo) -> io::Result<()> {
-        if !self.at_once {
-            return Ok(());
+    // Tells how a peer has come to stand, and how many are connected, where that is told at once and was not told yet.
+    fn tell_change(&mut self, p: PeerNo)
+        ensures same { self.new ≡ self.old }
+    {
+        if self.at_once && !self.is_told(p) {
+            let _told = self.tell_so(p);
+            self.passed.note_told(p);
         }
+    }
+
+    // Tells how a peer stands, and how many are connected.
+    fn tell_so(&self, p: PeerNo) -> io::Result<()> {
         match self.passed.stand(p) {
             Some(Stand::Connected) => eprintln!(self.teller; "cf: peer {}: connected", p.0),
             Some(stand) => eprintln!(self.teller;
@@ -152,10 +170,12 @@ impl<R: Wait + Threads + Copy + Drop> Network<R> {
     }
 
     // Tells of a peer that has gone, unless it was closed, which was told then.
-    fn tell_gone(&self, delivery: &Delivery) {
+    fn tell_gone(&mut self, delivery: &Delivery)
+        ensures same { self.new ≡ self.old }
+    {
         if let Delivery::Gone(p) = delivery {
             if !self.is_closed(*p) {
-                let _told = self.tell_change(*p);
+                self.tell_change(*p);
             }
         }
     }
@@ -186,8 +206,16 @@ impl<R: Wait + Threads + Copy + Drop> Network<R> {
         )
     }
 
-    /// Tells how a peer stands, if it was dialled.
+    /// Whether it was told at once that a peer is lost, with all that is known of why.
+    pub fn is_told(&self, p: PeerNo) -> bool {
+        self.passed.is_told(p)
+    }
+
+    /// Tells how a peer stands, if it was dialled, and that it is lost was not told at once.
     pub fn tell_stand(&self, p: PeerNo) -> io::Result<()> {
+        if self.is_told(p) {
+            return Ok(());
+        }
         match self.passed.stand(p) {
             Some(stand) => eprintln!(self.teller; "cf: peer {}: {stand}", p.0),
             None => Ok(()),
@@ -209,12 +237,15 @@ impl<R: Wait + Threads + Copy + Drop> Wires for Network<R> {
     }
 
     fn dial(&mut self, name: &str) -> Result<PeerNo, WireFail> {
+        if let Some(opened) = self.calls.answer(&self.handle, name) {
+            self.hub.dialer().hand(opened);
+        }
         let known = self.hub.dialer().failed().len();
         let answer = self.hub.dial(name);
         match answer {
             Ok(p) => {
                 self.passed.note_stand(p, Stand::Connected);
-                let _told = self.tell_change(p);
+                self.tell_change(p);
             }
             Err(WireFail::Failed) => {
                 self.passed.note_not_dialled();
@@ -237,7 +268,7 @@ impl<R: Wait + Threads + Copy + Drop> Wires for Network<R> {
     fn close(&mut self, p: PeerNo) {
         self.passed.note_closed(p);
         self.hub.close(p);
-        let _told = self.tell_change(p);
+        self.tell_change(p);
     }
 
     fn next(&mut self) -> Result<Delivery, NoMemory> {

@@ -103,7 +103,7 @@ pub(crate) struct Progress {
     /// How many peers are connected.
     pub(crate) connected: usize,
     /// The most headers that a peer has brought.
-    pub(crate) height: u32,
+    pub(crate) headers: u32,
     /// How many filters the peers have brought together.
     pub(crate) filters: u32,
     /// How many blocks they have.
@@ -124,6 +124,8 @@ pub(crate) struct Passed {
     at_tick: bool,
     // Whose bytes were the last that was delivered.
     heard: Option<PeerNo>,
+    // Which peers were told of as lost, with all that is known of why.
+    lost: [bool; PLACES],
     // When a line was told last, or the first delivery came.
     told: Option<Duration>,
     // How far it had come when that was told last.
@@ -140,6 +142,7 @@ impl Passed {
             counts: [Counts::new(); PLACES],
             at_tick: false,
             heard: None,
+            lost: [false; PLACES],
             told: None,
             last: None,
         }
@@ -153,6 +156,22 @@ impl Passed {
                 Some(_) => {}
             }
         }
+    }
+
+    /// A peer was told of, as it stands.
+    pub(crate) fn note_told(&mut self, p: PeerNo) {
+        let is_lost = matches!(
+            self.stand(p),
+            Some(Stand::Gone | Stand::SendFailed | Stand::Overdue(_))
+        );
+        if let Some(at) = self.lost.get_mut(p.0 as usize) {
+            *at = is_lost;
+        }
+    }
+
+    /// Whether a peer was told of as lost, with all that is known of why: nothing is left to be told of it.
+    pub(crate) fn is_told(&self, p: PeerNo) -> bool {
+        self.lost.get(p.0 as usize) == Some(&true)
     }
 
     /// The next peer was not dialled.
@@ -272,14 +291,14 @@ impl Passed {
     fn progress(&self) -> Progress {
         Progress {
             connected: self.connected(),
-            height: self.height(),
+            headers: self.headers(),
             filters: self.filters(),
             blocks: self.blocks(),
         }
     }
 
     // The most headers that a peer has brought.
-    fn height(&self) -> u32 {
+    fn headers(&self) -> u32 {
         let mut most = 0;
         for counts in &self.counts {
             most = counts.headers().max(most);

@@ -1,4 +1,5 @@
-//! The pulse of `sync`, which tells a second only where one is asked for, and ends at once when it is told to.
+//! The pulse of `sync`, which tells a second only where one is asked for, and ends at once when it is told to. Who reads
+//! at its pace waits for its ticks.
 ghost use Rattle.std.specs.Prelude.{None};
 
 use cf_outside::Pulse;
@@ -6,6 +7,7 @@ use cf_wires::Delivery;
 use std::alloc::Global;
 use std::sync::atomic::{AtomicU64, Ordering};
 use std::sync::{Arc, Wait};
+use std::thread;
 use std::time::{Clock, Duration};
 
 // Nothing is asked for, or what was asked for is waited for.
@@ -22,10 +24,16 @@ fn second() -> Duration {
     Duration::from_secs(1)
 }
 
-/// What a pulse is to do, as those who wait for it see it.
+// How long it is until who waits for a tick looks again.
+fn look() -> Duration {
+    Duration::from_millis(10)
+}
+
+/// What a pulse is to do, as those who wait for it see it, and how often it has told its time.
 #[derive(Drop)]
 pub(crate) struct Bell {
     state: AtomicU64,
+    ticks: AtomicU64,
 }
 
 impl Bell {
@@ -33,6 +41,7 @@ impl Bell {
     pub(crate) fn new() -> Bell {
         Bell {
             state: AtomicU64::new(HELD),
+            ticks: AtomicU64::new(0),
         }
     }
 
@@ -54,6 +63,26 @@ impl Bell {
     fn ring(&self) {
         self.state.store(RUNG, Ordering::SeqCst);
         self.state.wake_all();
+    }
+
+    // Counts a tick.
+    fn tick(&self) {
+        self.ticks.fetch_add(1, Ordering::SeqCst);
+    }
+
+    /// How many ticks there were.
+    pub(crate) fn ticks(&self) -> u64 {
+        self.ticks.load(Ordering::SeqCst)
+    }
+
+    /// Waits until there were more ticks than so many, or until it is rung.
+    pub(crate) fn wait_for_tick(&self, rt: &HostRuntime, ticks: u64) {
+        for _ in 0..u64::MAX {
+            if self.is_rung() || self.ticks() != ticks {
+                return;
+            }
+            thread::sleep(rt, look());
+        }
     }
 
     // Whether it was rung.
@@ -163,6 +192,7 @@ impl<R: Wait + Drop> Pulse for Naps<R> {
     fn wait(&mut self) -> u32 {
         self.bell.take(&self.handle);
         self.sleep();
+        self.bell.tick();
         1
     }
 }

@@ -2,6 +2,7 @@
 //! too.
 #![tactic(auto)]
 
+mod call;
 mod entry;
 mod outside;
 mod reader;
@@ -9,6 +10,7 @@ mod stop;
 mod tcp;
 mod ticker;
 
+pub use call::{Call, TcpCall};
 pub use entry::{CHUNK, Chunk, EntryKind, Seconds};
 pub use outside::{Dialer, Pulse, Writer};
 pub use reader::{Finished, Reader};
