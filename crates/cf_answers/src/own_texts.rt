@@ -22,7 +22,8 @@ usage: cf scan FILE WATCH
        cf filter FILE HEIGHT
        cf replay [--follow] [--trace] WATCH SESSION
        cf sync [--turns N] [--workers N] [--record FILE] WATCH PEER..
-       cf follow [--turns N] [--workers N] [--record FILE] WATCH PEER..
+       cf follow [--turns N] [--workers N] [--record FILE] [--redial SECONDS]
+                 WATCH PEER..
        cf serve [--grow] [--connections N] FILE ADDRESS
        cf address TEXT
        cf prove FILE TXID
@@ -61,6 +62,8 @@ usage: cf scan FILE WATCH
   --workers  judges filters in N threads, from 1 to 64 (else 4)
   --record   writes the dials and what came from the peers to FILE, as the
              lines of a session
+  --redial   where no peer is left, waits so long, from 1 to 3600, and dials all
+             anew, until it is stopped; it doesn't go with --record
   --witness  gives the first transaction of each block a witness, as nodes do
 
 A line of the history, in hundred millionths of a coin:

@@ -26,13 +26,24 @@ pub fn words_of(rt: &HostRuntime) -> Result<Vec<String>, Status> {
     Ok(words)
 }
 
-/// What the words ask of the network.
+/// What the words ask of the network, and of the files.
 #[derive(Clone, Copy)]
 pub struct Dials {
     /// How many peers `sync` or `follow` names; none for another command, and where the words ask for nothing.
     pub peers: usize,
     /// Whether it is `follow`.
     pub stays: bool,
+    /// Whether the first file that is read whole is a watch file.
+    pub watches: bool,
+}
+
+// Nothing is asked of the network.
+fn no_dials(watches: bool) -> Dials {
+    Dials {
+        peers: 0,
+        stays: false,
+        watches,
+    }
 }
 
 // What a command asks of the network.
@@ -41,15 +52,15 @@ fn dials_of(command: &Command) -> Dials {
         Command::Sync { peers, .. } => Dials {
             peers: peers.as_slice().len(),
             stays: false,
+            watches: true,
         },
         Command::Follow { peers, .. } => Dials {
             peers: peers.as_slice().len(),
             stays: true,
+            watches: true,
         },
-        _ => Dials {
-            peers: 0,
-            stays: false,
-        },
+        Command::Replay { .. } | Command::Scan { .. } => no_dials(true),
+        _ => no_dials(false),
     }
 }
 
@@ -62,10 +73,7 @@ pub fn read_dials(alloc: Global, words: &[String]) -> Result<Dials, NoMemory> {
     match read_words(alloc, words) {
         Ok(command) => Ok(dials_of(&command)),
         Err(Refused::NoMemory) => Err(NoMemory),
-        Err(Refused::No(_)) => Ok(Dials {
-            peers: 0,
-            stays: false,
-        }),
+        Err(Refused::No(_)) => Ok(no_dials(false)),
     }
 }
 
