@@ -53,7 +53,7 @@ enum Said<'a> {
 }
 
 // What a word says of the option of this name.
-fn said<'a>(word: &'a str, name: &str) -> Said<'a> {
+fn read_option<'a>(word: &'a str, name: &str) -> Said<'a> {
     match word.strip_prefix(name) {
         Some("") => Said::Next,
         Some(rest) => match rest.strip_prefix('=') {
@@ -88,7 +88,7 @@ impl<'a> Parted<'a> {
             self.kept.push(word)?;
             return Ok(());
         }
-        match said(word, name) {
+        match read_option(word, name) {
             Said::Next => self.waits = true,
             Said::Here(number) => self.numbers.push(number)?,
             Said::Other => {
@@ -101,7 +101,7 @@ impl<'a> Parted<'a> {
 }
 
 // These words without the option of this name.
-fn parted<'a>(alloc: Global, words: &'a [String], name: &str) -> Result<Parted<'a>, NoMemory> {
+fn without<'a>(alloc: Global, words: &'a [String], name: &str) -> Result<Parted<'a>, NoMemory> {
     let mut parted = Parted {
         kept: Vec::new(alloc),
         numbers: Vec::new(alloc),
@@ -173,7 +173,7 @@ pub fn is_follow(words: &[String]) -> bool {
 ///
 /// What is wrong with `--redial`, or that no memory is found.
 pub fn read_call(alloc: Global, words: &[String]) -> Result<Call, Refused<RedialFault>> {
-    let parted = parted(alloc, words, "--redial")?;
+    let parted = without(alloc, words, "--redial")?;
     let seconds = seconds_of(&parted).map_err(Refused::No)?;
     let words = copies(alloc, &parted.kept)?;
     let redial = match seconds {
@@ -189,7 +189,7 @@ pub fn read_call(alloc: Global, words: &[String]) -> Result<Call, Refused<Redial
 ///
 /// Where no memory is found.
 pub fn with_turns(alloc: Global, words: &[String], turns: u32) -> Result<Vec<String>, NoMemory> {
-    let parted = parted(alloc, words, "--turns")?;
+    let parted = without(alloc, words, "--turns")?;
     let number = format!(in alloc; "--turns={turns}")?;
     let mut all = Vec::new(alloc);
     for (place, word) in parted.kept.iter().enumerate() {
