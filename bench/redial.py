@@ -46,15 +46,19 @@ AGAIN = "cf: all peers are dialled again in 1 seconds\n"
 
 class Node:
     """A node at an address that stays the same. It serves a chain up to `tip`, and filters up to `indexed`. It is
-    silent where it is asked for a filter that isn't there yet, and where it is asked for a block that it gave up; at a
-    request for a filter of such a block it hangs up, unless it is `silent`."""
+    silent where it is asked for a filter that isn't there yet, and where it is asked for a block that it doesn't have;
+    at a request for a filter of such a block it hangs up."""
 
-    def __init__(self, chain, tip=None, services=FILTERS, magic=None, silent=False):
+    def __init__(self, chain, tip=None, services=FILTERS, magic=None):
         self.chain, self.tip = chain, chain.tip if tip is None else tip
-        self.indexed, self.services, self.magic, self.silent = self.tip, services, magic, silent
+        self.indexed, self.services, self.magic = self.tip, services, magic
         self.port, self.place, self.connections, self.greeted = 0, None, [], 0
-        self.cuts, self.lock = 0, threading.Lock()
+        self.turn, self.lock = None, threading.Lock()
         self.starts()
+
+    def turns_to(self, chain, command):
+        """Gives up its chain for this one at the next such request."""
+        self.turn = chain, command
 
     def starts(self):
         self.place = socket.socket()
@@ -98,13 +102,15 @@ class Node:
                     answer = self.answer(data[4:16].rstrip(b"\0").decode(), data[24:size])
                     data = data[size:]
                     if answer is None:
-                        self.cuts += 1
                         connection.shutdown(socket.SHUT_RDWR)
                         return
                     connection.sendall(self.framed(answer) if answer else b"")
 
     def answer(self, command, payload):
         """What is answered; `None` where it hangs up."""
+        if self.turn and self.turn[1] == command:
+            self.chain, self.turn = self.turn[0], None
+            self.tip = self.indexed = self.chain.tip
         chain = self.chain
         heights = {name: height for height, name in enumerate(chain.hashes[:self.tip + 1])}
         if command == "version":
@@ -121,7 +127,7 @@ class Node:
         if command in ("getcfheaders", "getcfilters"):
             first, last = struct.unpack("<I", payload[1:5])[0], heights.get(payload[5:])
             if last is None:
-                return b"" if self.silent else None
+                return None
             if last > self.indexed:
                 return b""
             if command == "getcfheaders":
@@ -233,36 +239,31 @@ def burst(around):
     return f"{NEW} blocks without filters were overdue, and the next run found these; {len(texts)} texts"
 
 
-def parting(around, silent):
-    """A node that gives up its tip for a longer branch while it is asked about the new blocks."""
+def parting(around, command):
+    """A node that gives up its tip for a longer branch just as it is asked so about the new blocks."""
     first, second = Chain((SEED, BELOW + NEW)), Chain((SEED, BELOW), (OTHER, NEW + 1))
-    node = Node(first, BELOW, silent=silent)
+    node = Node(first, BELOW)
     run = again(around, node.name)
     run.comes_to(node.last_line())
-    # It tells of blocks whose filters aren't there yet, and gives them up.
-    node.tip = first.tip
+    node.turns_to(second, command)
+    node.tip = node.indexed = first.tip
     node.tells()
-    comes(lambda: node.tip == first.tip and len(run.told()) >= 0, "it has told", run)
-    time.sleep(0.3)
-    node.chain, node.tip = second, second.tip
-    node.indexed = second.tip
-    if not silent:
-        # What is asked next is about blocks that it gave up: a run that has asked already is cut off as it would be.
-        node.ends()
-        node.starts()
-    comes(lambda: run.has_told(node.last_line()), "the text of the branch comes", run, OVERDUE)
+    line = b"synced %d %s\n" % (second.tip, second.hashes[-1][::-1].hex().encode())
+    comes(lambda: run.has_told(line), "the text of the branch comes", run, OVERDUE)
     ended(run)
     wanted(AGAIN in run.told(), "all are dialled again", run.told())
-    return checked(run, first, second)
+    return checked(run, first, second), run.told()
 
 
 def parts(around):
-    texts = parting(around, False)
-    return f"the text of the other branch came with the next run; {len(texts)} texts"
+    texts, told = parting(around, "getcfilters")
+    wanted("gone" in told and "Overdue" not in told, "it says", told)
+    return f"it hung up, and the text of the other branch came with the next run; {len(texts)} texts"
 
 
 def silent(around):
-    texts = parting(around, True)
+    texts, told = parting(around, "getdata")
+    wanted("Overdue" in told, "it says", told)
     return f"what the node was silent to was overdue, and the text of the other branch came; {len(texts)} texts"
 
 

@@ -26,7 +26,7 @@ pub use heard::{Front, Heard};
 pub use joined::Joined;
 pub use listener::Listener;
 pub use redial::{Call, MOST_REDIAL, Redial, RedialFault, is_follow, read_call, with_turns};
-pub use seen::{Doubt, LineKind};
+pub use seen::LineKind;
 pub use shown_files::{Seen, ShownFiles};
 pub use standing::tell_stands;
 pub use text_sink::TextSink;
