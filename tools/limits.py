@@ -30,6 +30,7 @@ TEXTS = {
         "BLOCKS, 1 to {MOST_PLAYED}, blocks",
         "deliveries, from 1 to {MOST_TURNS} (else {MOST_TURNS})",
         "threads, from 1 to {MOST_WORKERS} (else {USUAL_WORKERS})",
+        "waits so long, from 1 to {MOST_REDIAL}, and dials",
         "1 to {MOST_PEERS} of them, numbered from 1",
         "has passed, from 1 to {MOST_SECONDS}",
     ],
@@ -37,6 +38,7 @@ TEXTS = {
     "docs/MANUAL.md": [
         "at HEIGHT: 0 (genesis) to {MOST_HEIGHT}.",
         "over TCP, with 1 to {MOST_PEERS} peers, each HOST:PORT",
+        "With `--redial`, 1 to {MOST_REDIAL}, it doesn't end",
         "to N connections: 1 to {MOST_CONNECTIONS}, and {MOST_CONNECTIONS} where",
         "1 to {MOST_AT_ONCE}, and {USUAL_AT_ONCE} where",
         "1 to {MOST_BUDGET}, and {USUAL_BUDGET} where",

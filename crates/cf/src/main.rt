@@ -1,36 +1,40 @@
 //! `cf`: the program. Its words, the clock and a random number go to `run` (cf_cli), whose text goes to standard
 //! output; what it does over the network, and what went wrong, is told on standard error, and the exit status says
-//! which way the call ended.
+//! which way the call ended. `follow --redial` calls `run` again where no peer is left.
 #![tactic(auto)]
 
 ghost use Rattle.std.specs.Prelude.{◌≡◌};
 
 use cf_answers::{Status, own_text};
-use cf_bytes::{StdFiles, WriterSink, put_all};
+use cf_bytes::{Refused, put_all};
 use cf_cli::run;
 use cf_cli_host::{
-    Edge, Joined, Listener, hold, moment, nonce, read_dials, tell, tell_stands, words_of,
+    Call, Edge, Heard, Joined, Listener, Redial, ShownFiles, TextSink, hold, is_follow, moment,
+    nonce, read_call, read_dials, tell, tell_advice, tell_hint, tell_stands, with_turns, words_of,
 };
 use cf_network::Network;
 use cf_tasks::{InThreads, Spawner};
 use cf_tell::Teller;
-use std::io;
+use std::io::{self, Write};
 use std::process::ExitCode;
 use std::sync::Wait;
 use std::thread::Threads;
-
-// Writes a whole text to standard output.
-fn say(rt: &HostRuntime, text: &str) -> Status {
-    match put_all(&mut WriterSink::new(io::writer(rt)), text.as_bytes()) {
-        Ok(()) => Status::Done,
-        Err(_) => Status::OutFault,
-    }
-}
+use std::time::{Clock, Duration};
 
 // Tells what went wrong. Where standard error can't be written, the exit status alone tells it.
 fn told(teller: &Teller, words: &[String], status: Status, reason: &Option<io::Error>) -> Status {
     let _told = tell(teller, words, &status, reason);
     status
+}
+
+// Writes a whole text to standard output.
+fn say(teller: &Teller, words: &[String], text: &str) -> Status {
+    let rt = teller.runtime();
+    let mut out = TextSink::new(rt.alloc(), io::writer(&rt));
+    match put_all(&mut out, text.as_bytes()) {
+        Ok(()) => Status::Done,
+        Err(_) => told(teller, words, Status::OutFault, &out.reason()),
+    }
 }
 
 // Where the client stays, each peer that comes, goes or is closed is told of at once.
@@ -42,24 +46,59 @@ fn tell_changes<R: Wait + Threads + Copy + Drop>(network: &mut Network<R>, stays
     }
 }
 
+// Why the last call over a file failed, or over the output where the text could not be written.
+fn reason_of<W: Write>(
+    status: &Status,
+    files: &ShownFiles,
+    out: &TextSink<W>,
+) -> Option<io::Error> {
+    match status {
+        Status::OutFault => out.reason(),
+        _ => files.reason(),
+    }
+}
+
+// What came of a run.
+#[derive(Drop)]
+struct Ran {
+    status: Status,
+    // How many deliveries it took.
+    taken: u32,
+}
+
+// A run that was not begun, and why.
+fn unrun(status: Status) -> Ran {
+    Ran { status, taken: 0 }
+}
+
+// A run that was not begun, as no memory was found.
+fn not_begun(teller: &Teller, words: &[String]) -> Ran {
+    unrun(told(teller, words, Status::NoMemory, &None))
+}
+
 // Runs the command. `sync` and `follow` go over TCP.
-fn run_command<R: Wait + Threads + Sync + Copy + Drop + Send + 'static, K: Spawner>(
+fn run_command<
+    R: Wait + Threads + Sync + Copy + Drop + Send + 'static,
+    K: Spawner,
+    W: Write + Drop,
+>(
     teller: &'static Teller,
     handle: R,
     words: &[String],
     spawner: &mut K,
-) -> Status {
+    out: &mut TextSink<W>,
+) -> Ran {
     let rt = teller.runtime();
     let alloc = rt.alloc();
     let Ok(dials) = read_dials(alloc, words) else {
-        return told(teller, words, Status::NoMemory, &None);
+        return not_begun(teller, words);
     };
     let mut listener = match Listener::ready(teller, words) {
         Ok(listener) => listener,
-        Err(status) => return told(teller, words, status, &None),
+        Err(status) => return unrun(told(teller, words, status, &None)),
     };
     let Ok(edge) = Edge::new(teller, handle, spawner, dials.names.as_slice()) else {
-        return told(teller, words, Status::NoMemory, &None);
+        return not_begun(teller, words);
     };
     let Edge {
         mut network,
@@ -67,7 +106,8 @@ fn run_command<R: Wait + Threads + Sync + Copy + Drop + Send + 'static, K: Spawn
         mut played,
     } = edge;
     tell_changes(&mut network, dials.stays);
-    let mut files = StdFiles::new(&rt);
+    let mut heard = Heard::new(network);
+    let mut files = ShownFiles::new(teller, dials.watches);
     let mut ends = Vec::new(alloc);
     let status = run(
         handle,
@@ -77,16 +117,96 @@ fn run_command<R: Wait + Threads + Sync + Copy + Drop + Send + 'static, K: Spawn
         moment(&rt),
         nonce(&rt),
         &mut files,
-        &mut network,
+        &mut heard,
         &mut tape,
         &mut played,
         &mut listener,
         spawner,
-        &mut WriterSink::new(io::writer(&rt)),
+        out,
         &mut ends,
     );
-    let _told = tell_stands(teller, &status, &ends, &network);
-    told(teller, words, status, &files.reason())
+    files.end();
+    let _stands = tell_stands(teller, &status, &ends, &heard.wires);
+    let _advice = tell_advice(teller, words, &ends, &heard);
+    let reason = reason_of(&status, &files, out);
+    let status = told(teller, words, status, &reason);
+    let _hint = tell_hint(teller, words, &status, &files.seen());
+    Ran {
+        status,
+        taken: heard.taken(),
+    }
+}
+
+// Runs `follow` with these words, and where no peer is left again and again, over all names, after so many seconds each
+// time: until a run ends otherwise, or until all deliveries are taken that may be.
+fn follow_again<R: Wait + Threads + Sync + Copy + Drop + Send + 'static, K: Spawner>(
+    teller: &'static Teller,
+    handle: R,
+    words: &[String],
+    redial: Redial,
+    spawner: &mut K,
+) -> Status {
+    let rt = teller.runtime();
+    let mut out = TextSink::new(rt.alloc(), io::writer(&rt));
+    out.compare();
+    let mut turns = redial.turns;
+    for _ in handle.forever() {
+        let Ok(words) = with_turns(rt.alloc(), words, turns) else {
+            return told(teller, words, Status::NoMemory, &None);
+        };
+        let Ran { status, taken } = run_command(teller, handle, &words, spawner, &mut out);
+        turns = turns.saturating_sub(taken);
+        match status {
+            Status::NoPeers { .. } if turns > 0 => {}
+            status => return status,
+        }
+        let _told = eprintln!(teller;
+            "cf: all peers are dialled again in {} seconds",
+            redial.seconds
+        );
+        teller.sleep(Duration::from_secs(u64::from(redial.seconds)));
+    }
+    unreachable!()
+}
+
+// Runs a command once.
+fn run_once<R: Wait + Threads + Sync + Copy + Drop + Send + 'static, K: Spawner>(
+    teller: &'static Teller,
+    handle: R,
+    words: &[String],
+    spawner: &mut K,
+) -> Status {
+    let rt = teller.runtime();
+    let mut out = TextSink::new(rt.alloc(), io::writer(&rt));
+    run_command(teller, handle, words, spawner, &mut out).status
+}
+
+// Runs `follow`: once, or with `--redial` as often as no peer is left.
+fn follow<R: Wait + Threads + Sync + Copy + Drop + Send + 'static, K: Spawner>(
+    teller: &'static Teller,
+    handle: R,
+    words: &[String],
+    spawner: &mut K,
+) -> Status {
+    match read_call(teller.runtime().alloc(), words) {
+        Ok(
+            Call {
+                words,
+                redial: Some(redial),
+            },
+        ) => follow_again(teller, handle, &words, redial, spawner),
+        Ok(
+            Call {
+                words,
+                redial: None,
+            },
+        ) => run_once(teller, handle, &words, spawner),
+        Err(Refused::No(fault)) => {
+            let _told = eprintln!(teller; "error: {fault}");
+            Status::Usage
+        }
+        Err(Refused::NoMemory) => told(teller, words, Status::NoMemory, &None),
+    }
 }
 
 fn main(rt: HostRuntime) -> ExitCode {
@@ -96,8 +216,9 @@ fn main(rt: HostRuntime) -> ExitCode {
     };
     let status = match words_of(&rt) {
         Ok(words) => match own_text(&words) {
-            Some(text) => told(teller, &words, say(&rt, text), &None),
-            None => run_command(teller, rt, &words, &mut InThreads::new(rt)),
+            Some(text) => say(teller, &words, text),
+            None if is_follow(&words) => follow(teller, rt, &words, &mut InThreads::new(rt)),
+            None => run_once(teller, rt, &words, &mut InThreads::new(rt)),
         },
         Err(status) => told(teller, &[], status, &None),
     };

@@ -22,7 +22,8 @@ usage: cf scan FILE WATCH
        cf filter FILE HEIGHT
        cf replay [--follow] [--trace] WATCH SESSION
        cf sync [--turns N] [--workers N] [--record FILE] WATCH PEER..
-       cf follow [--turns N] [--workers N] [--record FILE] WATCH PEER..
+       cf follow [--turns N] [--workers N] [--record FILE] [--redial SECONDS]
+                 WATCH PEER..
        cf serve [--grow] [--endless | --connections N] [--at-once N] [--budget N]
                 FILE ADDRESS
        cf address TEXT
@@ -65,6 +66,8 @@ usage: cf scan FILE WATCH
   --workers  judges filters in N threads, from 1 to 64 (else 4)
   --record   writes the dials and what came from the peers to FILE, as the
              lines of a session
+  --redial   where no peer is left, waits so long, from 1 to 3600, and dials all
+             anew, until it is stopped; it doesn't go with --record
   --witness  make: gives the first transaction of each block a witness, as nodes
              do; check: the transaction may stand with its witnesses
 

@@ -1,5 +1,6 @@
 //! What went wrong, told on standard error.
-use crate::reasons::tell_unread;
+use crate::reasons::{tell_file_hint, tell_unread};
+use crate::shown_files::Seen;
 use cf_answers::Status;
 use cf_input::mistake_text;
 use cf_tell::Teller;
@@ -30,8 +31,17 @@ fn hint(status: &Status, name: &str) -> &'static str {
     }
 }
 
+// Tells that the text could not be written, and why.
+fn tell_out(teller: &Teller, status: &Status, reason: &Option<io::Error>) -> io::Result<()> {
+    match reason {
+        Some(reason) => eprintln!(teller; "cf: {status}: {reason}"),
+        None => eprintln!(teller; "cf: {status}"),
+    }
+}
+
 /// Tells on standard error what went wrong, if anything has. The first word is the program's name; there is none where
-/// the words can't be read. `reason` is why the last call over a file failed.
+/// the words can't be read. `reason` is why the last call over a file failed, or over the output where the text could
+/// not be written.
 pub fn tell(
     teller: &Teller,
     words: &[String],
@@ -42,8 +52,26 @@ pub fn tell(
         Status::Done => Ok(()),
         Status::Usage if !words.is_empty() => tell_mistake(teller, words, status),
         Status::FileFault => tell_unread(teller, words, status, reason),
+        Status::OutFault => tell_out(teller, status, reason),
         // What is told of the peers says it.
         Status::NoPeers { .. } => Ok(()),
         _ => eprintln!(teller; "cf: {status}{}", hint(status, name_of(words))),
+    }
+}
+
+/// Tells what a user can do about a file that was refused, where that was seen at a glance of it.
+pub fn tell_hint(
+    teller: &Teller,
+    words: &[String],
+    status: &Status,
+    seen: &Seen,
+) -> io::Result<()> {
+    match status {
+        Status::BadFile {
+            which,
+            place,
+            cause,
+        } => tell_file_hint(teller, words, *which, *place, cause, seen),
+        _ => Ok(()),
     }
 }

@@ -26,13 +26,24 @@ pub fn words_of(rt: &HostRuntime) -> Result<Vec<String>, Status> {
     Ok(words)
 }
 
-/// What the words ask of the network.
+/// What the words ask of the network, and of the files.
 #[derive(Drop)]
 pub struct Dials {
     /// The peers that `sync` or `follow` names, in order; none for another command, and where the words ask for nothing.
     pub names: Vec<String>,
     /// Whether it is `follow`.
     pub stays: bool,
+    /// Whether the first file that is read whole is a watch file.
+    pub watches: bool,
+}
+
+// Nothing is asked of the network.
+fn no_dials(alloc: Global, watches: bool) -> Dials {
+    Dials {
+        names: Vec::new(alloc),
+        stays: false,
+        watches,
+    }
 }
 
 // Copies of these names, in order.
@@ -50,20 +61,15 @@ fn dials_of(alloc: Global, command: &Command) -> Result<Dials, NoMemory> {
         Command::Sync { peers, .. } => Ok(Dials {
             names: copies_of(alloc, peers.as_slice())?,
             stays: false,
+            watches: true,
         }),
         Command::Follow { peers, .. } => Ok(Dials {
             names: copies_of(alloc, peers.as_slice())?,
             stays: true,
+            watches: true,
         }),
-        _ => Ok(no_dials(alloc)),
-    }
-}
-
-// Nothing is asked of it.
-fn no_dials(alloc: Global) -> Dials {
-    Dials {
-        names: Vec::new(alloc),
-        stays: false,
+        Command::Replay { .. } | Command::Scan { .. } => Ok(no_dials(alloc, true)),
+        _ => Ok(no_dials(alloc, false)),
     }
 }
 
@@ -76,7 +82,7 @@ pub fn read_dials(alloc: Global, words: &[String]) -> Result<Dials, NoMemory> {
     match read_words(alloc, words) {
         Ok(command) => dials_of(alloc, &command),
         Err(Refused::NoMemory) => Err(NoMemory),
-        Err(Refused::No(_)) => Ok(no_dials(alloc)),
+        Err(Refused::No(_)) => Ok(no_dials(alloc, false)),
     }
 }
 

@@ -2,19 +2,31 @@
 //! standard error.
 #![tactic(auto)]
 
+mod advice;
 mod descriptors;
 mod edge;
 mod faults;
 mod given;
+mod heard;
 mod joined;
 mod listener;
 mod reasons;
+mod redial;
+mod seen;
+mod shown_files;
 mod standing;
+mod text_sink;
 
+pub use advice::tell_advice;
 pub use descriptors::hold;
 pub use edge::Edge;
-pub use faults::tell;
+pub use faults::{tell, tell_hint};
 pub use given::{Dials, moment, nonce, read_dials, words_of};
+pub use heard::{Front, Heard};
 pub use joined::Joined;
 pub use listener::Listener;
+pub use redial::{Call, MOST_REDIAL, Redial, RedialFault, is_follow, read_call, with_turns};
+pub use seen::LineKind;
+pub use shown_files::{Seen, ShownFiles};
 pub use standing::tell_stands;
+pub use text_sink::TextSink;

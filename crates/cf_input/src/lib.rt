@@ -16,6 +16,7 @@ mod words;
 pub use addresses::{AddressCause, other_form};
 pub use laws::{laws_of_lines, laws_of_numbers};
 pub use mistakes::mistake_text;
+pub use number::number_within;
 pub use proof_file::{ProofCause, ProofFileFault, Proven, read_proof_file};
 pub use session::{MOST_SECONDS, Session, SessionCause, SessionFault, read_session};
 pub use text::{PeerNames, Word, is_name};
