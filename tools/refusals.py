@@ -22,6 +22,11 @@ DEAD = "the client met a refusal of memory before, and answers it from then on, 
 LENGTH = "a count that no memory holds: more than 4,294,967,295 entries or bytes"
 UNREACHED = "the words are read within these bounds, so no call of the program comes here"
 WHY = {
+    ("cf/src/main.rt", "not_begun"): "no memory was found for the words, or for what the call goes over",
+    ("cf_cli_host/src/listener.rt", "ready"): "no memory was found for the link",
+    ("cf_cli_host/src/listener.rt", "ready_for"): "no memory was found for the link",
+    ("cf_grow/src/grown.rt", "put"): "the room for blocks that join (`--grow-bytes`) is used up, which is answered like memory that isn't found",
+    ("cf_link/src/tcp.rt", "new"): "no memory was found for the seats",
     ("cf_cli_client/src/following.rt", "record_run"): "the run before it answered so",
     ("cf_cli_demo/src/demoing.rt", "demo"): UNREACHED,
     ("cf_cli_host/src/given.rt", "words_of"): "a word could not be kept",
