@@ -106,8 +106,9 @@ def outputs(around):
     for to, reason in ((ends[1], "Broken pipe"), (os.open("/dev/full", os.O_WRONLY), "No space left on device")):
         for words in ([around.program, "scan", around.blocks, around.watch["paid"]], [around.program, "--help"]):
             err = os.path.join(around.folder, "err")
-            pid = os.posix_spawn(words[0], words, os.environ, file_actions=[
-                (os.POSIX_SPAWN_DUP2, to, 1), (os.POSIX_SPAWN_OPEN, 2, err, os.O_WRONLY | os.O_CREAT | os.O_TRUNC, 0o600)])
+            new = os.O_WRONLY | os.O_CREAT | os.O_TRUNC
+            actions = [(os.POSIX_SPAWN_DUP2, to, 1), (os.POSIX_SPAWN_OPEN, 2, err, new, 0o600)]
+            pid = os.posix_spawn(words[0], words, os.environ, file_actions=actions)
             status = os.waitstatus_to_exitcode(os.waitpid(pid, 0)[1])
             with open(err, encoding="utf-8") as file:
                 told = file.read()
