@@ -35,10 +35,11 @@ ROWS = (
     (b"tb1qw508d6qejxtdg4y5r3zarvary0c5xw7kxpjzsx\n", 1, "another network"),
     (b"bc1qw508d6qejxtdg4y5r3zarvary0c5xw7kv8f3t4\n", 1, "another network"),
     (b"wpkh(02f9308a019258c31049344f85f89d5229b531c845836f99b08601f113bce036f9)#8zl0zxma\n", 1, "a descriptor"),
-    (b"tpubD6NzVbkrYhZ4WaWSyoBvQwbpLkojyoTZPRsgXELWz3Popb3qkjcJyJUGLnL4qHHoQvao8ESaAstxYSnhyswJ76uZPStJRJCTKvosUCJZL5B\n", 1, "an extended key"),
+    (b"tpub" + b"D6NzVbkrYhZ4WaWSyoBvQwbpLkojyoTZ" * 3 + b"\n", 1, "an extended key"),
     (b"bcrt1qw508d6qejxtdg4y5r3zarvary0c5xw7kygt080\r\n", 1, "ends with CR"),
 )
-KEY, HASH = "02f9308a019258c31049344f85f89d5229b531c845836f99b08601f113bce036f9", "751e76e8199196d454941c45d1b3a323f1433bd6"
+KEY = "02f9308a019258c31049344f85f89d5229b531c845836f99b08601f113bce036f9"
+HASH = "751e76e8199196d454941c45d1b3a323f1433bd6"
 # Line, bytes and name of the first that is told, or nothing.
 DOUBTS = (
     ([PAID, KEY], (2, 33, "a public key")),
@@ -85,7 +86,7 @@ def fronts(around):
     rows = (
         (bytes.fromhex("f9beb4d9") + whole[4:], "begins as a file of blocks of mainnet"),
         (bytes.fromhex("0a03cf40") + whole[4:], "begins as a file of blocks of signet"),
-        (bytes(a ^ b for a, b in zip(whole, bytes.fromhex("0123456789abcdef") * len(whole))), "-blocksxor=0"),
+        (bytes(a ^ b for a, b in zip(whole, bytes(range(1, 9)) * len(whole))), "-blocksxor=0"),
         (b"#!/bin/sh\n", "-blocksxor=0"),
     )
     for data, text in rows:
@@ -105,8 +106,9 @@ def outputs(around):
     for to, reason in ((ends[1], "Broken pipe"), (os.open("/dev/full", os.O_WRONLY), "No space left on device")):
         for words in ([around.program, "scan", around.blocks, around.watch["paid"]], [around.program, "--help"]):
             err = os.path.join(around.folder, "err")
-            pid = os.posix_spawn(words[0], words, os.environ, file_actions=[
-                (os.POSIX_SPAWN_DUP2, to, 1), (os.POSIX_SPAWN_OPEN, 2, err, os.O_WRONLY | os.O_CREAT | os.O_TRUNC, 0o600)])
+            new = os.O_WRONLY | os.O_CREAT | os.O_TRUNC
+            actions = [(os.POSIX_SPAWN_DUP2, to, 1), (os.POSIX_SPAWN_OPEN, 2, err, new, 0o600)]
+            pid = os.posix_spawn(words[0], words, os.environ, file_actions=actions)
             status = os.waitstatus_to_exitcode(os.waitpid(pid, 0)[1])
             with open(err, encoding="utf-8") as file:
                 told = file.read()
