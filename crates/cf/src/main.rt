@@ -9,8 +9,9 @@ use cf_answers::{Status, own_text};
 use cf_bytes::{Refused, put_all};
 use cf_cli::run;
 use cf_cli_host::{
-    Call, Edge, Heard, Joined, Listener, Redial, ShownFiles, TextSink, hold, is_follow, moment,
-    nonce, read_call, read_dials, tell, tell_advice, tell_hint, tell_stands, with_turns, words_of,
+    Call, Edge, Failure, Heard, Joined, Listener, Redial, ShownFiles, TextSink, hold, is_follow,
+    moment, nonce, read_call, read_dials, tell, tell_advice, tell_hint, tell_stands, try_record,
+    with_turns, words_of,
 };
 use cf_network::Network;
 use cf_tasks::{InThreads, Spawner};
@@ -22,8 +23,8 @@ use std::thread::Threads;
 use std::time::{Clock, Duration};
 
 // Tells what went wrong. Where standard error can't be written, the exit status alone tells it.
-fn told(teller: &Teller, words: &[String], status: Status, reason: &Option<io::Error>) -> Status {
-    let _told = tell(teller, words, &status, reason);
+fn told(teller: &Teller, words: &[String], status: Status, failure: &Option<Failure>) -> Status {
+    let _told = tell(teller, words, &status, failure);
     status
 }
 
@@ -33,7 +34,7 @@ fn say(teller: &Teller, words: &[String], text: &str) -> Status {
     let mut out = TextSink::new(rt.alloc(), io::writer(&rt));
     match put_all(&mut out, text.as_bytes()) {
         Ok(()) => Status::Done,
-        Err(_) => told(teller, words, Status::OutFault, &out.reason()),
+        Err(_) => told(teller, words, Status::OutFault, &out.failure()),
     }
 }
 
@@ -46,15 +47,11 @@ fn tell_changes<R: Wait + Threads + Copy + Drop>(network: &mut Network<R>, stays
     }
 }
 
-// Why the last call over a file failed, or over the output where the text could not be written.
-fn reason_of<W: Write>(
-    status: &Status,
-    files: &ShownFiles,
-    out: &TextSink<W>,
-) -> Option<io::Error> {
+// The last call over a file that failed, or over the output where the text could not be written.
+fn failure_of<W: Write>(status: &Status, files: &ShownFiles, out: &TextSink<W>) -> Option<Failure> {
     match status {
-        Status::OutFault => out.reason(),
-        _ => files.reason(),
+        Status::OutFault => out.failure(),
+        _ => files.failure(),
     }
 }
 
@@ -93,6 +90,9 @@ fn run_command<
     let Ok(dials) = read_dials(alloc, words) else {
         return not_begun(teller, words);
     };
+    if let Err(status) = try_record(teller, words) {
+        return unrun(status);
+    }
     let mut listener = match Listener::ready(teller, words) {
         Ok(listener) => listener,
         Err(status) => return unrun(told(teller, words, status, &None)),
@@ -128,8 +128,8 @@ fn run_command<
     files.end();
     let _stands = tell_stands(teller, &status, &ends, &heard.wires);
     let _advice = tell_advice(teller, words, &ends, &heard);
-    let reason = reason_of(&status, &files, out);
-    let status = told(teller, words, status, &reason);
+    let failure = failure_of(&status, &files, out);
+    let status = told(teller, words, status, &failure);
     let _hint = tell_hint(teller, words, &status, &files.seen());
     Ran {
         status,

@@ -1,4 +1,5 @@
 //! What went wrong, told on standard error.
+use crate::failure::Failure;
 use crate::reasons::{tell_file_hint, tell_unread};
 use crate::shown_files::Seen;
 use cf_answers::Status;
@@ -32,27 +33,27 @@ fn hint(status: &Status, name: &str) -> &'static str {
 }
 
 // Tells that the text could not be written, and why.
-fn tell_out(teller: &Teller, status: &Status, reason: &Option<io::Error>) -> io::Result<()> {
-    match reason {
-        Some(reason) => eprintln!(teller; "cf: {status}: {reason}"),
+fn tell_out(teller: &Teller, status: &Status, failure: &Option<Failure>) -> io::Result<()> {
+    match failure {
+        Some(failure) => eprintln!(teller; "cf: {status}: {}", failure.reason),
         None => eprintln!(teller; "cf: {status}"),
     }
 }
 
 /// Tells on standard error what went wrong, if anything has. The first word is the program's name; there is none where
-/// the words can't be read. `reason` is why the last call over a file failed, or over the output where the text could
+/// the words can't be read. `failure` is the last call over a file that failed, or over the output where the text could
 /// not be written.
 pub fn tell(
     teller: &Teller,
     words: &[String],
     status: &Status,
-    reason: &Option<io::Error>,
+    failure: &Option<Failure>,
 ) -> io::Result<()> {
     match status {
         Status::Done => Ok(()),
         Status::Usage if !words.is_empty() => tell_mistake(teller, words, status),
-        Status::FileFault => tell_unread(teller, words, status, reason),
-        Status::OutFault => tell_out(teller, status, reason),
+        Status::FileFault => tell_unread(teller, words, status, failure),
+        Status::OutFault => tell_out(teller, status, failure),
         // What is told of the peers says it.
         Status::NoPeers { .. } => Ok(()),
         _ => eprintln!(teller; "cf: {status}{}", hint(status, name_of(words))),

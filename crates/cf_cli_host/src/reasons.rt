@@ -1,25 +1,12 @@
 //! Which file of a command could not be read or written, and why.
+use crate::failure::{Asked, Failure};
 use crate::seen::network_of;
 use crate::shown_files::Seen;
 use cf_answers::{FileCause, Status, Which};
 use cf_input::{Command, read_words};
 use cf_tell::Teller;
 use cf_walk::RecordCause;
-use std::fs;
-use std::io::{self, Read};
-
-// Why a file can't be read, as the system says now, or nothing where it can.
-fn reason(rt: &HostRuntime, name: &str) -> Option<io::Error> {
-    let mut file = match fs::open(rt, name) {
-        Ok(file) => file,
-        Err(e) => return Some(e),
-    };
-    let mut byte = [0u8; 1];
-    match file.read(&mut byte) {
-        Ok(_) => None,
-        Err(e) => Some(e),
-    }
-}
+use std::io;
 
 // The files that a command reads, in the order in which it reads them.
 fn files_read(command: &Command) -> (Option<&str>, Option<&str>) {
@@ -57,55 +44,37 @@ fn file_written(command: &Command) -> Option<&str> {
     }
 }
 
-// Tells why a file can't be read, and whether there was something to tell.
-fn tell_reason(teller: &Teller, name: Option<&str>) -> Option<io::Result<()>> {
-    let name = name?;
-    let e = reason(&teller.runtime(), name)?;
-    Some(eprintln!(teller; "cf: {name} could not be read: {e}"))
-}
-
-// Tells why the file that a command writes could not be written, where that is known.
-fn tell_unwritten(
-    teller: &Teller,
-    name: Option<&str>,
-    status: &Status,
-    reason: &Option<io::Error>,
-) -> io::Result<()> {
-    match (name, reason) {
-        (Some(name), Some(reason)) => eprintln!(teller;
-            "cf: {name} could not be written: {reason}"
-        ),
-        _ => eprintln!(teller; "cf: {status}"),
-    }
-}
-
-// Tells which file of a command could not be read or written: the first that can't be read now, else the one that it
-// writes.
+// Tells which file of a command could not be read or written, and why.
 fn tell_file(
     teller: &Teller,
     command: &Command,
     status: &Status,
-    reason: &Option<io::Error>,
+    failure: &Option<Failure>,
 ) -> io::Result<()> {
+    let Some(Failure { asked, reason }) = failure else {
+        return eprintln!(teller; "cf: {status}");
+    };
     let (first, second) = files_read(command);
-    if let Some(told) = tell_reason(teller, first) {
-        return told;
+    match (asked, first, second, file_written(command)) {
+        (Asked::First, Some(name), ..) | (Asked::Second, _, Some(name), _) => eprintln!(teller;
+            "cf: {name} could not be read: {reason}"
+        ),
+        (Asked::Written, _, _, Some(name)) => eprintln!(teller;
+            "cf: {name} could not be written: {reason}"
+        ),
+        _ => eprintln!(teller; "cf: {status}: {reason}"),
     }
-    if let Some(told) = tell_reason(teller, second) {
-        return told;
-    }
-    tell_unwritten(teller, file_written(command), status, reason)
 }
 
-/// Tells which file could not be read or written, and why. `reason` is why the last call over a file failed.
+/// Tells which file could not be read or written, and why.
 pub(crate) fn tell_unread(
     teller: &Teller,
     words: &[String],
     status: &Status,
-    reason: &Option<io::Error>,
+    failure: &Option<Failure>,
 ) -> io::Result<()> {
     match read_words(teller.runtime().alloc(), words) {
-        Ok(command) => tell_file(teller, &command, status, reason),
+        Ok(command) => tell_file(teller, &command, status, failure),
         Err(_) => eprintln!(teller; "cf: {status}"),
     }
 }

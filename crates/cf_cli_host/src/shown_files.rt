@@ -1,6 +1,7 @@
 //! The files of a call, of which is told on a terminal how far they were read, and what is seen at a glance of them.
 ghost use Rattle.std.specs.Prelude.{◌≡◌, None};
 
+use crate::failure::{Asked, Failure};
 use crate::seen::{LineKind, doubtful_line, marked_line};
 use cf_bytes::{Failed, FileFail, Files, StdFiles};
 use cf_tell::Teller;
@@ -49,6 +50,11 @@ pub struct ShownFiles {
     watches: bool,
     reading: Option<Reading>,
     seen: Seen,
+    // Whether a file was asked for before the one that is read now.
+    later: bool,
+    // What is asked for now, or was by the last call that failed.
+    asked: Option<Asked>,
+    failed: Option<Asked>,
 }
 
 impl ShownFiles {
@@ -67,12 +73,37 @@ impl ShownFiles {
                 line: None,
                 front: None,
             },
+            later: false,
+            asked: None,
+            failed: None,
         }
     }
 
-    /// Why the last of the calls that failed did, as the system says it.
-    pub fn reason(&self) -> Option<io::Error> {
-        self.files.reason()
+    /// The last of the calls that failed.
+    pub fn failure(&self) -> Option<Failure> {
+        let (Some(asked), Some(reason)) = (self.failed, self.files.reason()) else {
+            return None;
+        };
+        Some(Failure { asked, reason })
+    }
+
+    // A file is asked for that is read.
+    fn ask(&mut self)
+        ensures same { self.new.files ≡ self.old.files }
+    {
+        self.asked = Some(if self.later {
+            Asked::Second
+        } else {
+            Asked::First
+        });
+        self.later = true;
+    }
+
+    // The call that was made has failed.
+    fn fail(&mut self)
+        ensures same { self.new.files ≡ self.old.files }
+    {
+        self.failed = self.asked;
     }
 
     /// What was seen of the files.
@@ -188,9 +219,11 @@ impl Files for ShownFiles {
     ghost writes = { λ _ _ _ _ _. Unit {0} };
 
     fn open(&mut self, name: &str, most: usize) -> Result<(), FileFail> {
+        self.ask();
         let answer = self.files.open(name, most);
-        if answer.is_ok() {
-            self.begin(name);
+        match answer {
+            Ok(()) => self.begin(name),
+            Err(_) => self.fail(),
         }
         answer
     }
@@ -198,7 +231,11 @@ impl Files for ShownFiles {
     fn part(&mut self, into: &mut [u8]) -> Result<usize, Failed> {
         let answer = self.files.part(into);
         match answer {
-            Ok(0) | Err(_) => self.end(),
+            Ok(0) => self.end(),
+            Err(_) => {
+                self.end();
+                self.fail();
+            }
             Ok(n) => {
                 self.look(&into[..n]);
                 self.note(n);
@@ -208,14 +245,22 @@ impl Files for ShownFiles {
     }
 
     fn read(&mut self, alloc: Global, name: &str, most: usize) -> Result<Vec<u8>, FileFail> {
+        self.ask();
         let answer = self.files.read(alloc, name, most);
-        if let (true, Ok(bytes)) = (self.watches, &answer) {
-            self.look_at_watch(name, bytes.as_slice());
+        match &answer {
+            Ok(bytes) if self.watches => self.look_at_watch(name, bytes.as_slice()),
+            Ok(_) => {}
+            Err(_) => self.fail(),
         }
         answer
     }
 
     fn write(&mut self, alloc: Global, name: &str, bytes: &[u8]) -> Result<(), FileFail> {
-        self.files.write(alloc, name, bytes)
+        self.asked = Some(Asked::Written);
+        let answer = self.files.write(alloc, name, bytes);
+        if answer.is_err() {
+            self.fail();
+        }
+        answer
     }
 }

@@ -1,6 +1,7 @@
 //! Standard output, as the sink of a call's text.
 ghost use Rattle.std.specs.Prelude.{◌≡◌, None};
 
+use crate::failure::{Asked, Failure};
 use cf_bytes::{Failed, Sink};
 use std::alloc::Global;
 use std::io::{self, Write};
@@ -39,9 +40,13 @@ impl<W: Write> TextSink<W> {
         self.compares = true;
     }
 
-    /// Why the last of the writes that failed did; `None` where none has.
-    pub fn reason(&self) -> Option<io::Error> {
-        self.reason
+    /// The last of the writes that failed; `None` where none has.
+    pub fn failure(&self) -> Option<Failure> {
+        let reason = self.reason?;
+        Some(Failure {
+            asked: Asked::Output,
+            reason,
+        })
     }
 
     // Keeps the text that was written last, where texts are compared.
