@@ -73,13 +73,12 @@ def without_room(program, folder):
          "%s; FILE is %s" % (last_line(ended), "not there" if none else "there"))
     with open(os.path.join(folder, "w"), "w"), open(os.path.join(folder, "r"), "w") as record:
         record.write("old\n")
-    with open(os.path.join(folder, "filler"), "wb") as filler:
-        try:
-            while True:
-                filler.write(bytes(512))
-                filler.flush()
-        except OSError:
-            pass
+    filler = os.open(os.path.join(folder, "filler"), os.O_WRONLY | os.O_CREAT)
+    try:
+        while True:
+            os.write(filler, bytes(512))
+    except OSError:
+        os.close(filler)
     ended = run(program, ["sync", "--record", "r", "w", "127.0.0.1:1"], folder)
     kept = read(os.path.join(folder, "r")) == b"old\n" and not beside(folder, "r")
     told("a record, no room", ended.returncode == 4 and kept,

@@ -39,6 +39,19 @@ fn read_back<R: HostFiles>(
     Ok(format!(in alloc; "{answer:?} {reason}")?)
 }
 
+// What is read once a file was opened, and then refused as too big.
+fn read_after_a_refusal<R: HostFiles>(
+    alloc: Global,
+    files: &mut StdFiles<R>,
+    name: &str,
+) -> Result<String, Fail> {
+    let first = files.open(name, 3);
+    let second = files.open(name, 2);
+    let mut byte = [0u8; 1];
+    let left = files.part(&mut byte);
+    Ok(format!(in alloc; "{first:?} {second:?} {left:?}")?)
+}
+
 #[test]
 fn files_of_the_system(rt: HostRuntime) -> Result<(), Fail> {
     let name = "cf_bytes_test_file";
@@ -59,6 +72,8 @@ fn files_of_the_system(rt: HostRuntime) -> Result<(), Fail> {
         let told = read_back(rt.alloc(), &mut files, name, most)?;
         assert_eq!(rt; told.as_str(), wanted);
     }
+    let told = read_after_a_refusal(rt.alloc(), &mut files, name)?;
+    assert_eq!(rt; told.as_str(), "Ok(()) Err(TooBig) Ok(0)");
     std::fs::remove_file(&rt, name)?;
     let told = read_back(rt.alloc(), &mut files, name, 3)?;
     assert_eq!(rt; told.as_str(), "Err(Failed) true");
