@@ -2,9 +2,9 @@
 use crate::doors::count;
 use crate::link::ToldLink;
 use crate::row::{watch_in, words_at};
-use cf_bytes::{MOST_PEERS, MapFiles, VecSink};
+use cf_bytes::{MapFiles, VecSink};
 use cf_cli::run;
-use cf_cli_host::Edge;
+use cf_cli_host::{Edge, read_dials};
 use cf_grow::Nobody;
 use cf_rows::{Host, shown};
 use cf_tasks::{InThreads, Spawner};
@@ -24,7 +24,8 @@ fn followed<R: Wait + Threads + Sync + Copy + Drop + Send + 'static, K: Spawner>
     let mut link = ToldLink::new(rt, count(alloc)?).ok()?;
     let mut out = VecSink::new(alloc, 7, 1000).ok()?;
     let teller = Teller::kept(rt).ok()?;
-    let Ok(edge) = Edge::new(teller, handle, spawner, MOST_PEERS) else {
+    let dials = read_dials(alloc, words).ok()?;
+    let Ok(edge) = Edge::new(teller, handle, spawner, dials.names.as_slice()) else {
         return None;
     };
     let Edge {
