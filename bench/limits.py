@@ -29,8 +29,9 @@ from conversation import THEIR_VERSION, compact, frame
 from network import ROOT, Run, comes
 
 WORST, SOURCES, MEMORY, FACTOR = 1000, 8, 400 << 20, 2
-# The blocks of the chain that is served, and how long the worst ones are there before the `sync` comes, in seconds.
-BLOCKS, BEFORE = 30_000, 5
+# The blocks of the chain that is served. The `sync` comes once the worst hold what they can: the server needs less than REST of a processor, or QUIET seconds
+# are over.
+BLOCKS, REST, QUIET = 30_000, 0.1, 40
 # `LinkFault`, and how long a peer waits for an answer at most, in seconds.
 STATUS, WAIT = 9, 30
 # How much longer than its limit a connection may stay, in seconds, and how long one stays whose answer is read slowly.
@@ -57,6 +58,23 @@ class Server(Run):
     def peak(self):
         with open(f"/proc/{self.process.pid}/status") as file:
             return int(re.search(r"VmHWM:\s+(\d+) kB", file.read()).group(1)) << 10
+
+    def seconds(self):
+        """The processor's time that it has taken."""
+        with open(f"/proc/{self.process.pid}/stat") as file:
+            fields = file.read().rsplit(")", 1)[1].split()
+        return (int(fields[11]) + int(fields[12])) / os.sysconf("SC_CLK_TCK")
+
+    def rests(self):
+        """Waits until it has little to do."""
+        start = time.monotonic()
+        time.sleep(2)
+        while time.monotonic() - start < QUIET:
+            taken = self.seconds()
+            time.sleep(1)
+            if self.seconds() - taken < REST:
+                break
+        return time.monotonic() - start
 
     def peer(self, source="127.0.0.1", small=False):
         """A connection from this address, whose side takes little where it is small."""
@@ -179,13 +197,13 @@ def beside_the_worst(program, file, *options):
         before = server.peak()
         worst = Worst(server, WORST)
         try:
-            time.sleep(BEFORE)
+            rested = server.rests()
             beside = seconds_of(program, server, text)
-            time.sleep(BEFORE)
+            server.rests()
         finally:
             worst.end()
         peak = server.peak()
-        print(f"    sync alone {alone:.1f} s, beside {WORST} of the worst {beside:.1f} s; the server's peak {before >> 20} MiB before them, {peak >> 20} MiB with them")
+        print(f"    sync alone {alone:.1f} s, beside {WORST} of the worst, {rested:.0f} s after they came, {beside:.1f} s; the server's peak {before >> 20} MiB before them, {peak >> 20} MiB with them")
         found = [] if peak <= MEMORY else [f"its peak is above {MEMORY >> 20} MiB"]
         return found + ([] if beside <= FACTOR * alone + 1 else [f"the sync took more than {FACTOR} times as long, and a second"])
     finally:
@@ -203,7 +221,7 @@ def usual(program, file):
 # ---- seats
 
 def seats(program, file):
-    server, found = Server(program, file, "--at-once", "2", "--connections", "5"), []
+    server, found = Server(program, file, "--at-once", "2"), []
     try:
         first, second, third = (server.peer() for _ in range(3))
         found += [] if is_answered(first) and is_answered(second) else ["two are not answered"]
