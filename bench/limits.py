@@ -55,6 +55,9 @@ class Server(Run):
         self.place = (place.group(1), int(place.group(2)))
         self.name = "%s:%d" % self.place
 
+    def threads(self):
+        return len(os.listdir(f"/proc/{self.process.pid}/task"))
+
     def peak(self):
         with open(f"/proc/{self.process.pid}/status") as file:
             return int(re.search(r"VmHWM:\s+(\d+) kB", file.read()).group(1)) << 10
@@ -77,7 +80,7 @@ class Server(Run):
         return time.monotonic() - start
 
     def peer(self, source="127.0.0.1", small=False):
-        """A connection from this address, whose side takes little where it is small."""
+        """A connection from this address. Its side takes little where it is small."""
         peer = socket.socket()
         if small:
             peer.setsockopt(socket.SOL_SOCKET, socket.SO_RCVBUF, 4096)
@@ -274,54 +277,52 @@ def endless(program, file):
 
 # ---- times
 
-def closed_after(peer, most, read=0):
-    """After how many seconds the server closes it, at most so many, or None. Each 20 seconds so many bytes are read."""
+def ended_after(server, peer, own, most, read):
+    """After how many seconds the server's thread for it has ended, at most so many, or None. Each 20 seconds so many bytes are read. (What the peer sees of
+    it comes behind what it hasn't read.)"""
     start = time.monotonic()
-    while time.monotonic() - start < most:
-        time.sleep(1)
-        try:
-            if read and int(time.monotonic() - start) % 20 == 0:
-                peer.settimeout(0.5)
+    peer.settimeout(0.5)
+    for second in range(1, most):
+        time.sleep(max(0, start + second - time.monotonic()))
+        if server.threads() <= own:
+            return second
+        if read and second % 20 == 0:
+            try:
                 peer.recv(read)
-            info = peer.getsockopt(socket.IPPROTO_TCP, socket.TCP_INFO, 1)
-            # Any state but that of a connection that is open on both sides.
-            if info[0] != 1:
-                return time.monotonic() - start
-        except socket.timeout:
-            pass
-        except OSError:
-            return time.monotonic() - start
+            except OSError:
+                pass
     return None
 
 
 def times(program, file):
-    server, found, threads = Server(program, file), [], []
-    tip = tip_of(server.told())
+    found, threads = [], []
 
-    def case(name, data, limit, read=0):
-        peer = server.peer(small=limit != 60 or read)
-        data and peer.sendall(data)
-        after = closed_after(peer, limit + LATE, read)
-        print(f"    {name}: " + ("stays" if after is None else f"closed after {after:.0f} s"))
-        if after is None or after < 55:
-            found.append(f"{name}: it is not closed in time")
+    def case(name, asks, limit, read=0):
+        server = Server(program, file)
+        try:
+            own = server.threads()
+            peer = server.peer(small=asks)
+            asked = THEIR_VERSION + frame("getcfilters", struct.pack("<BI", 0, BLOCKS - 999) + tip_of(server.told())) * 200
+            peer.sendall(asked if asks else b"" if asks is None else THEIR_VERSION + frame("ping", bytes(8))[:-1])
+            comes(lambda: server.threads() > own, 100)
+            after = ended_after(server, peer, own, limit + LATE, read)
+            print(f"    {name}: " + ("stays" if after is None else f"ended after {after} s"), flush=True)
+            if after is None or after < 55:
+                found.append(f"{name}: it does not end in time")
+        finally:
+            server.end()
 
-    asked = THEIR_VERSION + frame("getcfilters", struct.pack("<BI", 0, BLOCKS - 999) + tip) * 200
-    rows = [
-        ("no version", b"", 60),
-        ("half a message", THEIR_VERSION + frame("ping", bytes(8))[:-1], 60),
-        ("an answer that nobody reads", asked, 75),
-        ("an answer of which 2 KB are read each 20 seconds", asked, SLOW, 2048),
-    ]
-    try:
-        for row in rows:
-            threads.append(threading.Thread(target=case, args=row))
-            threads[-1].start()
-        for thread in threads:
-            thread.join()
-        return found
-    finally:
-        server.end()
+    for row in (
+        ("no version", None, 60),
+        ("half a message", False, 60),
+        ("an answer that nobody reads", True, 60),
+        ("an answer of which 2 KB are read each 20 seconds", True, SLOW, 2048),
+    ):
+        threads.append(threading.Thread(target=case, args=row))
+        threads[-1].start()
+    for thread in threads:
+        thread.join()
+    return found
 
 
 def busy(program, file):
