@@ -29,8 +29,9 @@ from conversation import THEIR_VERSION, compact, frame
 from network import ROOT, Run, comes
 
 WORST, SOURCES, MEMORY, FACTOR = 1000, 8, 400 << 20, 2
-# The blocks of the chain that is served, and how long the worst ones are there before the `sync` comes, in seconds.
-BLOCKS, BEFORE = 30_000, 5
+# The blocks of the chain that is served. The `sync` comes once the worst hold what they can: the server needs less than REST of a processor, or QUIET seconds
+# are over.
+BLOCKS, REST, QUIET = 30_000, 0.1, 40
 # `LinkFault`, and how long a peer waits for an answer at most, in seconds.
 STATUS, WAIT = 9, 30
 # How much longer than its limit a connection may stay, in seconds, and how long one stays whose answer is read slowly.
@@ -54,12 +55,32 @@ class Server(Run):
         self.place = (place.group(1), int(place.group(2)))
         self.name = "%s:%d" % self.place
 
+    def threads(self):
+        return len(os.listdir(f"/proc/{self.process.pid}/task"))
+
     def peak(self):
         with open(f"/proc/{self.process.pid}/status") as file:
             return int(re.search(r"VmHWM:\s+(\d+) kB", file.read()).group(1)) << 10
 
+    def seconds(self):
+        """The processor's time that it has taken."""
+        with open(f"/proc/{self.process.pid}/stat") as file:
+            fields = file.read().rsplit(")", 1)[1].split()
+        return (int(fields[11]) + int(fields[12])) / os.sysconf("SC_CLK_TCK")
+
+    def rests(self):
+        """Waits until it has little to do."""
+        start = time.monotonic()
+        time.sleep(2)
+        while time.monotonic() - start < QUIET:
+            taken = self.seconds()
+            time.sleep(1)
+            if self.seconds() - taken < REST:
+                break
+        return time.monotonic() - start
+
     def peer(self, source="127.0.0.1", small=False):
-        """A connection from this address, whose side takes little where it is small."""
+        """A connection from this address. Its side takes little where it is small."""
         peer = socket.socket()
         if small:
             peer.setsockopt(socket.SOL_SOCKET, socket.SO_RCVBUF, 4096)
@@ -179,13 +200,13 @@ def beside_the_worst(program, file, *options):
         before = server.peak()
         worst = Worst(server, WORST)
         try:
-            time.sleep(BEFORE)
+            rested = server.rests()
             beside = seconds_of(program, server, text)
-            time.sleep(BEFORE)
+            server.rests()
         finally:
             worst.end()
         peak = server.peak()
-        print(f"    sync alone {alone:.1f} s, beside {WORST} of the worst {beside:.1f} s; the server's peak {before >> 20} MiB before them, {peak >> 20} MiB with them")
+        print(f"    sync alone {alone:.1f} s, beside {WORST} of the worst, {rested:.0f} s after they came, {beside:.1f} s; the server's peak {before >> 20} MiB before them, {peak >> 20} MiB with them")
         found = [] if peak <= MEMORY else [f"its peak is above {MEMORY >> 20} MiB"]
         return found + ([] if beside <= FACTOR * alone + 1 else [f"the sync took more than {FACTOR} times as long, and a second"])
     finally:
@@ -203,7 +224,7 @@ def usual(program, file):
 # ---- seats
 
 def seats(program, file):
-    server, found = Server(program, file, "--at-once", "2", "--connections", "5"), []
+    server, found = Server(program, file, "--at-once", "2"), []
     try:
         first, second, third = (server.peer() for _ in range(3))
         found += [] if is_answered(first) and is_answered(second) else ["two are not answered"]
@@ -256,54 +277,52 @@ def endless(program, file):
 
 # ---- times
 
-def closed_after(peer, most, read=0):
-    """After how many seconds the server closes it, at most so many, or None. Each 20 seconds so many bytes are read."""
+def ended_after(server, peer, own, most, read):
+    """After how many seconds the server's thread for it has ended, at most so many, or None. Each 20 seconds so many bytes are read. (What the peer sees of
+    it comes behind what it hasn't read.)"""
     start = time.monotonic()
-    while time.monotonic() - start < most:
-        time.sleep(1)
-        try:
-            if read and int(time.monotonic() - start) % 20 == 0:
-                peer.settimeout(0.5)
+    peer.settimeout(0.5)
+    for second in range(1, most):
+        time.sleep(max(0, start + second - time.monotonic()))
+        if server.threads() <= own:
+            return second
+        if read and second % 20 == 0:
+            try:
                 peer.recv(read)
-            info = peer.getsockopt(socket.IPPROTO_TCP, socket.TCP_INFO, 1)
-            # Any state but that of a connection that is open on both sides.
-            if info[0] != 1:
-                return time.monotonic() - start
-        except socket.timeout:
-            pass
-        except OSError:
-            return time.monotonic() - start
+            except OSError:
+                pass
     return None
 
 
 def times(program, file):
-    server, found, threads = Server(program, file), [], []
-    tip = tip_of(server.told())
+    found, threads = [], []
 
-    def case(name, data, limit, read=0):
-        peer = server.peer(small=limit != 60 or read)
-        data and peer.sendall(data)
-        after = closed_after(peer, limit + LATE, read)
-        print(f"    {name}: " + ("stays" if after is None else f"closed after {after:.0f} s"))
-        if after is None or after < 55:
-            found.append(f"{name}: it is not closed in time")
+    def case(name, asks, limit, read=0):
+        server = Server(program, file)
+        try:
+            own = server.threads()
+            peer = server.peer(small=asks)
+            asked = THEIR_VERSION + frame("getcfilters", struct.pack("<BI", 0, BLOCKS - 999) + tip_of(server.told())) * 200
+            peer.sendall(asked if asks else b"" if asks is None else THEIR_VERSION + frame("ping", bytes(8))[:-1])
+            comes(lambda: server.threads() > own, 100)
+            after = ended_after(server, peer, own, limit + LATE, read)
+            print(f"    {name}: " + ("stays" if after is None else f"ended after {after} s"), flush=True)
+            if after is None or after < 55:
+                found.append(f"{name}: it does not end in time")
+        finally:
+            server.end()
 
-    asked = THEIR_VERSION + frame("getcfilters", struct.pack("<BI", 0, BLOCKS - 999) + tip) * 200
-    rows = [
-        ("no version", b"", 60),
-        ("half a message", THEIR_VERSION + frame("ping", bytes(8))[:-1], 60),
-        ("an answer that nobody reads", asked, 75),
-        ("an answer of which 2 KB are read each 20 seconds", asked, SLOW, 2048),
-    ]
-    try:
-        for row in rows:
-            threads.append(threading.Thread(target=case, args=row))
-            threads[-1].start()
-        for thread in threads:
-            thread.join()
-        return found
-    finally:
-        server.end()
+    for row in (
+        ("no version", None, 60),
+        ("half a message", False, 60),
+        ("an answer that nobody reads", True, 60),
+        ("an answer of which 2 KB are read each 20 seconds", True, SLOW, 2048),
+    ):
+        threads.append(threading.Thread(target=case, args=row))
+        threads[-1].start()
+    for thread in threads:
+        thread.join()
+    return found
 
 
 def busy(program, file):

@@ -95,14 +95,6 @@ fn seats_of(seats: &[Seat], address: IpAddr) -> usize {
     seats.iter().filter(|seat| seat.address == address).count()
 }
 
-// How many connections from this address wait.
-fn waiting_of(waiting: &[Waiting], address: IpAddr) -> usize {
-    waiting
-        .iter()
-        .filter(|next| next.address == address)
-        .count()
-}
-
 // Since when a seat is without a `version`, where that is for long enough.
 fn silent_since(seat: &Seat, now: u64) -> Option<u64> {
     if !seat.pass.is_greeted() && now.saturating_sub(seat.since) >= VERSION_GRACE {
@@ -154,24 +146,63 @@ fn idle_one(seats: &[Seat], within: bool, now: u64) -> Option<usize> {
     found
 }
 
-// The last seat of an address that has more than its share.
-fn surplus_one(seats: &[Seat], share: usize) -> Option<usize> {
+// How many have an address.
+#[derive(Clone, Copy)]
+struct Crowd {
+    address: IpAddr,
+    count: usize,
+}
+
+// How many there are of each address, as they are counted one by one.
+#[derive(Drop)]
+struct Crowds {
+    rows: Vec<Crowd>,
+}
+
+impl Crowds {
+    // None was counted.
+    fn new(alloc: Global) -> Crowds {
+        Crowds {
+            rows: Vec::new(alloc),
+        }
+    }
+
+    // Counts one more of this address, and tells how many there are with it. Where no memory is found it isn't counted.
+    fn add(&mut self, address: IpAddr) -> usize {
+        for row in self.rows.iter_mut() {
+            if row.address == address {
+                row.count = row.count.saturating_add(1);
+                return row.count;
+            }
+        }
+        let _counted = self.rows.push(Crowd { address, count: 1 });
+        1
+    }
+}
+
+// The last one that waits from the address that has most of them, if it has more than one.
+fn crowded_one(alloc: Global, waiting: &[Waiting]) -> Option<usize> {
+    let mut crowds = Crowds::new(alloc);
+    let mut most = 1;
     let mut found = None;
-    for (i, seat) in seats.iter().enumerate() {
-        if seats_of(seats, seat.address) > share {
+    for (i, next) in waiting.iter().enumerate() {
+        let count = crowds.add(next.address);
+        if count > most {
+            most = count;
             found = Some(i);
         }
     }
     found
 }
 
-// The last one that waits from the address that has most of them, if it has more than one.
-fn crowded_one(waiting: &[Waiting]) -> Option<usize> {
+// A seat of an address that has more than its share.
+fn surplus_one(alloc: Global, seats: &[Seat], share: usize) -> Option<usize> {
+    let mut crowds = Crowds::new(alloc);
+    let mut most = share;
     let mut found = None;
-    let mut most = 2;
-    for (i, next) in waiting.iter().enumerate() {
-        let count = waiting_of(waiting, next.address);
-        if count >= most {
+    for (i, seat) in seats.iter().enumerate() {
+        let count = crowds.add(seat.address);
+        if count > most {
             most = count;
             found = Some(i);
         }
@@ -268,7 +299,7 @@ impl Door {
         if self.waiting.len() < MOST_WAITING {
             return true;
         }
-        match crowded_one(&self.waiting) {
+        match crowded_one(self.alloc, &self.waiting) {
             Some(i) if i < self.waiting.len() => {
                 drop(self.waiting.remove(i));
                 true
@@ -344,7 +375,7 @@ impl Door {
         if idle.is_some() {
             return idle;
         }
-        surplus_one(&self.seats, share)
+        surplus_one(self.alloc, &self.seats, share)
     }
 
     // Cuts a connection for the next one that waits, if one may be cut and none is ending.

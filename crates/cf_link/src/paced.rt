@@ -34,7 +34,7 @@ pub const BYTES_A_SECOND: u64 = 16_000;
 pub const LARGE: u32 = 65_536;
 
 /// Of a large message so many times its length is held: its bytes, what is read from them, and what is answered.
-pub const HELD_FOR_EACH: u64 = 4;
+pub const HELD_FOR_EACH: u64 = 6;
 
 // How long a write waits before times are looked at, in milliseconds.
 const WRITE_LOOK: u64 = 1000;
