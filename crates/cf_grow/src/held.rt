@@ -92,21 +92,17 @@ impl Held {
     {
         match self {
             Held::Bytes(bytes) => waiting.extend_from_slice(bytes.as_slice())?,
-            Held::Block(block) => put_frame(block.frame(alloc), waiting)?,
-            Held::Filter(filter) => put_frame(filter.frame(alloc), waiting)?,
+            Held::Block(block) => {
+                let frame = block.frame(alloc)?;
+                waiting.extend_from_slice(&frame)?;
+            }
+            Held::Filter(filter) => {
+                let frame = filter.frame(alloc)?;
+                waiting.extend_from_slice(&frame)?;
+            }
         }
         Ok(())
     }
-}
-
-// Puts a frame at the end of the bytes that wait.
-fn put_frame(frame: Result<Vec<u8>, NoMemory>, waiting: &mut Vec<u8>) -> Result<(), NoMemory>
-    ensures { (text : List ℕ) → IfOk frame (λ bytes. bytes.items ≡ text)
-        → OnOk result (waiting.new.items ≡ waiting.old.items ++ text) }
-{
-    let bytes = frame?;
-    waiting.extend_from_slice(&bytes)?;
-    Ok(())
 }
 
 /// Parts in their order. Contracts see them as a list. Many blocks may be asked for at once: each at the front takes
@@ -173,7 +169,9 @@ impl HeldParts {
     {
         let first = self.blocks.len();
         if place < first {
-            return put_frame(self.blocks.as_slice()[place].frame(alloc), waiting);
+            let frame = self.blocks.as_slice()[place].frame(alloc)?;
+            waiting.extend_from_slice(&frame)?;
+            return Ok(());
         }
         self.others.as_slice()[place - first].put(alloc, waiting)
     }

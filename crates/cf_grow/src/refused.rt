@@ -3,7 +3,7 @@ ghost use Rattle.std.specs.Prelude.{◌≡◌, [], true};
 ghost use Rattle.std.specs.List.{AllByRecursion};
 ghost use Rattle.cf_frame.specs.declared.frame.Frame.{Frame as FrameValue};
 
-use cf_bytes::Listed;
+use cf_bytes::{Listed, NoMemory};
 use cf_frame::Frame;
 use std::alloc::Global;
 use std::marker::Model;
@@ -49,14 +49,24 @@ impl RefusedBlocks {
         false
     }
 
-    // Keeps one more. Once there are four, those are forgotten; where no memory is found it isn't kept.
+    // Puts one at the end. Where no memory is found it isn't kept.
+    fn put(&mut self, frame: Frame)
+        ensures { (Is : FrameValue → Type 0) → AllByRecursion Is self.old → Is frame → AllByRecursion Is self.new }
+    {
+        match self.frames.push(frame) {
+            Ok(()) => {}
+            Err(NoMemory) => {}
+        }
+    }
+
+    // Keeps one more. Once there are four, those are forgotten.
     pub(crate) fn keep(&mut self, frame: Frame)
         ensures { (Is : FrameValue → Type 0) → AllByRecursion Is self.old → Is frame → AllByRecursion Is self.new }
     {
         if self.frames.len() >= MOST_KEPT {
-            self.frames.truncate(0);
+            self.forget();
         }
-        let _kept = self.frames.push(frame);
+        self.put(frame);
     }
 
     // Forgets them all.
