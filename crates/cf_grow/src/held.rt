@@ -70,7 +70,7 @@ impl HeldFilter {
         ensures { IfOk result
             (λ bytes. bytes.items ≡ spelling (frame_of (CfilterMessage 0 self.now.block self.now.filter))) }
     {
-        filter_bytes(alloc, &self.block, self.filter.as_slice())
+        filter_bytes(alloc, self.block, self.filter.as_slice())
     }
 }
 
@@ -263,8 +263,11 @@ fn hold_filter(index: &Index, height: u32) -> Result<Held, NoMemory>
     let (Some(block), Some(filter)) = (index.hash(height), index.shared_filter(height)) else {
         unreachable!()
     };
-    let filter = filter.share()?;
-    Ok(Held::Filter(HeldFilter { block, filter }))
+    let shared = filter.share()?;
+    Ok(Held::Filter(HeldFilter {
+        block,
+        filter: shared,
+    }))
 }
 
 // A reply: a block or a filter as a share, and all others as bytes.
