@@ -8,16 +8,18 @@ ghost use Rattle.cf_grow.specs.Growing.{messages_in, news_in};
 ghost use Rattle.cf_grow.specs.declared.held.Held.{Held as HeldPart};
 ghost use Rattle.cf_grow.specs.declared.held.Held.TheVariants.{Block as BlockPart};
 ghost use Rattle.cf_grow.specs.Held.{text_all, text_in, texts_in};
-ghost use Rattle.cf_msg.specs.declared.msg.Msg.TheVariants.{Block as BlockMessage, Cfilter as CfilterMessage};
+ghost use Rattle.cf_msg.specs.declared.msg.Msg.TheVariants.{Block as BlockMessage};
 ghost use Rattle.cf_msg.specs.{IsEntry, IsWithinLimits, frame_of, payload_of};
 ghost use Rattle.cf_server.specs.{AreRepliesOf, IsReplyOf, message_of, messages_of, text_of};
 
+use crate::filter::HeldFilter;
+use crate::parts::Parts;
 use crate::taking::Answer;
 use cf_bytes::{Hash32, Listed, NoMemory};
 use cf_frame::encode;
-use cf_index::{Index, SharedBlock, SharedFilter};
+use cf_index::{Index, SharedBlock};
 use cf_msg::{BLOCK_KIND, Bytes, Entries, Inventory, Msg, frame_block};
-use cf_server::{Reply, Serving, filter_bytes, message_bytes, write_reply};
+use cf_server::{Reply, Serving, message_bytes, write_reply};
 use std::alloc::Global;
 use std::marker::Model;
 
@@ -53,24 +55,6 @@ impl HeldBlock {
     {
         let frame = frame_block(alloc, self.shared.block())?;
         encode(alloc, &frame.command, frame.payload.as_slice())
-    }
-}
-
-/// A filter that is to be sent, and its block's hash. It is shared with the chain, and fits into a frame.
-#[derive(Drop)]
-pub struct HeldFilter {
-    block: Hash32,
-    filter: SharedFilter,
-    ghost few: { length filter ≤ 3999900 },
-}
-
-impl HeldFilter {
-    // The bytes of its frame.
-    fn frame(&self, alloc: Global) -> Result<Vec<u8>, NoMemory>
-        ensures { IfOk result
-            (λ bytes. bytes.items ≡ spelling (frame_of (CfilterMessage 0 self.now.block self.now.filter))) }
-    {
-        filter_bytes(alloc, self.block, self.filter.as_slice())
     }
 }
 
@@ -177,15 +161,6 @@ impl HeldParts {
     }
 }
 
-/// An answer, held: the bytes that are told first, and the parts behind them, so many.
-#[derive(Drop)]
-pub struct Parts {
-    pub(crate) told: Bytes,
-    pub(crate) rest: HeldParts,
-    pub(crate) count: usize,
-    ghost whole: { count ≡ length rest },
-}
-
 // The frame of a message, at the end.
 #[tactic(auto, using(crate::proofs::Holding::held_message))]
 fn hold_message(alloc: Global, msg: &Msg, told: &mut Vec<u8>) -> Result<(), NoMemory>
@@ -264,10 +239,7 @@ fn hold_filter(index: &Index, height: u32) -> Result<Held, NoMemory>
         unreachable!()
     };
     let shared = filter.share()?;
-    Ok(Held::Filter(HeldFilter {
-        block,
-        filter: shared,
-    }))
+    Ok(Held::Filter(HeldFilter::new(block, shared)))
 }
 
 // A reply: a block or a filter as a share, and all others as bytes.
