@@ -147,19 +147,22 @@ def beside(server, *calls):
 
 # ---- cases
 
+def unread_peer(server, message):
+    """A peer whose answer has begun to come."""
+    peer = server.peer(4096)
+    peer.sendall(message)
+    peer.recv(1, socket.MSG_PEEK)
+    return peer
+
+
 def held_of_each(program, file, options, message):
     """How much memory a server takes for each peer that sends a message and reads nothing."""
     server = Server(program, file, *options)
     try:
         # What a first peer leaves behind isn't counted.
-        peers = [server.peer(4096)]
-        peers[0].sendall(message)
-        time.sleep(1)
+        peers = [unread_peer(server, message)]
         before = server.size()
-        for _ in range(SILENT):
-            peers.append(server.peer(4096))
-            peers[-1].sendall(message)
-        time.sleep(2)
+        peers += [unread_peer(server, message) for _ in range(SILENT)]
         return (server.size() - before) // SILENT
     finally:
         server.stop()

@@ -9,7 +9,7 @@ use Rattle.cf_chain.specs.Grow.{announcement, asked_for, is_unknown, unknown_ent
 use Rattle.cf_bytes.specs.declared.hash.Hash32.{Hash32}
 use Rattle.cf_frame.specs.Frame.{spelling}
 use Rattle.cf_grow.specs.declared.held.Held.{Held}
-use Rattle.cf_grow.specs.declared.held.Parts.{Parts}
+use Rattle.cf_grow.specs.declared.parts.Parts.{Parts}
 use Rattle.cf_grow.specs.declared.taking.Answer.{Answer}
 use Rattle.cf_grow.specs.Growing.{IsAnswerOf, messages_in, news_in}
 use Rattle.cf_grow.specs.Held.{text_all, text_in, texts_in}

@@ -2,5 +2,6 @@ pub mod Marks
 pub mod Grows
 pub mod Holding
 pub mod PartTexts
+pub mod Refusing
 pub mod Serving
 pub mod Stepping

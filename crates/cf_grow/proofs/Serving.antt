@@ -10,7 +10,7 @@ use Rattle.cf_frame.specs.Reading.{front_of}
 use Rattle.cf_grow.specs.declared.ending.Ending.{Ending}
 use Rattle.cf_grow.specs.declared.ending.Ending.TheVariants.{Served, Shrunk}
 use Rattle.cf_grow.specs.declared.mark.Shrunk.{Shrunk as Hashes}
-use Rattle.cf_grow.specs.Standing.{Begun}
+use Rattle.cf_grow.specs.Standing.{Start}
 use Rattle.cf_grow.specs.Serving.{Answers, AnswersEach, AllWritten, SomeWritten, WrittenBefore, Writes, Comes, Answered, Fails, AnswersFrame, FindsFrame, Moves, Stops, Midway, IsServedGrowing, EndsInside, EndsOf, CountsOf, CountsSends}
 use Rattle.cf_msg.specs.declared.msg.Msg.{Msg}
 use Rattle.cf_msg.specs.declared.msg.Malformed.{Malformed}
@@ -28,11 +28,11 @@ front_joined (Some bytes) a b = ap Some (sym (append_assoc a b bytes))
 
 -- ---- answers, one after another
 
-pub each_one : (now : Begun) (nonce : ℕ) (mark : TipMark) (m : Msg) (next : TipMark) (text : List ℕ) → Answers now nonce mark m next text
+pub each_one : (now : Start) (nonce : ℕ) (mark : TipMark) (m : Msg) (next : TipMark) (text : List ℕ) → Answers now nonce mark m next text
     → AnswersEach now nonce mark (m ∷ []) next text
 each_one now nonce mark m next text answers = (next, text, [], answers, (refl, refl), sym (append-nil text))
 
-pub each_joined : (now : Begun) (nonce : ℕ) (mark mid last : TipMark) (a b : List Msg) (s t : List ℕ) → AnswersEach now nonce mark a mid s → AnswersEach now nonce mid b last t
+pub each_joined : (now : Start) (nonce : ℕ) (mark mid last : TipMark) (a b : List Msg) (s t : List ℕ) → AnswersEach now nonce mark a mid s → AnswersEach now nonce mid b last t
     → AnswersEach now nonce mark (a ++ b) last (s ++ t)
 each_joined now nonce mark mid last [] b s t first second =
     let one : AnswersEach now nonce mark b last t = subst (λ (x : TipMark). AnswersEach now nonce x b last t) first.0 second in
@@ -48,11 +48,11 @@ each_joined now nonce mark mid last (m ∷ ms) b s t first second = (
 
 -- ---- moves
 
-pub moves_none : (now : Begun) (nonce n : ℕ) (w : List ℕ) (mark : TipMark) (o : Option (List ℕ)) → Moves now nonce n n w w mark mark o o
+pub moves_none : (now : Start) (nonce n : ℕ) (w : List ℕ) (mark : TipMark) (o : Option (List ℕ)) → Moves now nonce n n w w mark mark o o
 moves_none now nonce n w mark o = record { messages = []; leads = λ more. refl; text = []; each = (refl, refl); written = whole_none o }
 
 -- a frame was taken and answered
-pub moves_frame : (now : Begun) (nonce n : ℕ) (w rest : List ℕ) (f : Frame) (mark next : TipMark) (o p : Option (List ℕ)) → front_of w ≡ Ok (Some (f, rest))
+pub moves_frame : (now : Start) (nonce n : ℕ) (w rest : List ℕ) (f : Frame) (mark next : TipMark) (o p : Option (List ℕ)) → front_of w ≡ Ok (Some (f, rest))
     → Answered now nonce (message_of f) mark next o p → Moves now nonce (suc n) n w rest mark next o p
 moves_frame now nonce n w rest f mark next o p front answered = record {
   messages = answered.message ∷ [];
@@ -63,7 +63,7 @@ moves_frame now nonce n w rest f mark next o p front answered = record {
 }
 
 -- one move after another
-pub moves_on : (now : Begun) (nonce k l m : ℕ) (u v w piece : List ℕ) (a b c : TipMark) (o p q : Option (List ℕ))
+pub moves_on : (now : Start) (nonce k l m : ℕ) (u v w piece : List ℕ) (a b c : TipMark) (o p q : Option (List ℕ))
     → Moves now nonce k l u v a b o p → Moves now nonce l m (v ++ piece) w b c p q → Moves now nonce k m (u ++ piece) w a c o q
 moves_on now nonce k l m u v w piece a b c o p q first second = record {
   messages = first.messages ++ second.messages;
@@ -73,7 +73,7 @@ moves_on now nonce k l m u v w piece a b c o p q first second = record {
   written = whole_on o p q first.text second.text first.written second.written;
 }
 
-pub moves_then : (now : Begun) (nonce k l m : ℕ) (u v w : List ℕ) (a b c : TipMark) (o p q : Option (List ℕ))
+pub moves_then : (now : Start) (nonce k l m : ℕ) (u v w : List ℕ) (a b c : TipMark) (o p q : Option (List ℕ))
     → Moves now nonce k l u v a b o p → Moves now nonce l m v w b c p q → Moves now nonce k m u w a c o q
 moves_then now nonce k l m u v w a b c o p q first second =
     subst (λ (x : List ℕ). Moves now nonce k m x w a c o q) (append-nil u)
@@ -81,7 +81,7 @@ moves_then now nonce k l m u v w a b c o p q first second =
 
 -- ---- ends
 
-all_on : (now : Begun) (nonce : ℕ) (mark mid : TipMark) (ms ns : List Msg) (text : List ℕ) (o p q : Option (List ℕ)) → AnswersEach now nonce mark ms mid text → Whole o p text
+all_on : (now : Start) (nonce : ℕ) (mark mid : TipMark) (ms ns : List Msg) (text : List ℕ) (o p q : Option (List ℕ)) → AnswersEach now nonce mark ms mid text → Whole o p text
     → AllWritten now nonce mid ns p q → AllWritten now nonce mark (ms ++ ns) o q
 all_on now nonce mark mid ms ns text o p q each whole w = record {
   last = w.last;
@@ -90,7 +90,7 @@ all_on now nonce mark mid ms ns text o p q each whole w = record {
   whole = whole_on o p q text w.text whole w.whole;
 }
 
-some_on : (now : Begun) (nonce : ℕ) (mark mid : TipMark) (ms ns : List Msg) (text : List ℕ) (o p q : Option (List ℕ)) → AnswersEach now nonce mark ms mid text → Whole o p text
+some_on : (now : Start) (nonce : ℕ) (mark mid : TipMark) (ms ns : List Msg) (text : List ℕ) (o p q : Option (List ℕ)) → AnswersEach now nonce mark ms mid text → Whole o p text
     → SomeWritten now nonce mid ns p q → SomeWritten now nonce mark (ms ++ ns) o q
 some_on now nonce mark mid ms ns text o p q each whole w = record {
   answered = ms ++ w.answered;
@@ -102,7 +102,7 @@ some_on now nonce mark mid ms ns text o p q each whole w = record {
   begins = beginning_on o p q text w.text whole w.begins;
 }
 
-before_on : (s : Hashes) (now : Begun) (nonce : ℕ) (mark mid : TipMark) (ms ns : List Msg) (text : List ℕ) (o p q : Option (List ℕ)) → AnswersEach now nonce mark ms mid text → Whole o p text
+before_on : (s : Hashes) (now : Start) (nonce : ℕ) (mark mid : TipMark) (ms ns : List Msg) (text : List ℕ) (o p q : Option (List ℕ)) → AnswersEach now nonce mark ms mid text → Whole o p text
     → WrittenBefore s now nonce mid ns p q → WrittenBefore s now nonce mark (ms ++ ns) o q
 before_on s now nonce mark mid ms ns text o p q each whole w = record {
   answered = ms ++ w.answered;
@@ -116,7 +116,7 @@ before_on s now nonce mark mid ms ns text o p q each whole w = record {
   whole = whole_on o p q text w.text whole w.whole;
 }
 
-writes_on : (ending : Ending) (now : Begun) (nonce : ℕ) (mark mid : TipMark) (ms ns : List Msg) (text : List ℕ) (o p q : Option (List ℕ)) → AnswersEach now nonce mark ms mid text → Whole o p text
+writes_on : (ending : Ending) (now : Start) (nonce : ℕ) (mark mid : TipMark) (ms ns : List Msg) (text : List ℕ) (o p q : Option (List ℕ)) → AnswersEach now nonce mark ms mid text → Whole o p text
     → Writes ending now nonce mid ns p q → Writes ending now nonce mark (ms ++ ns) o q
 writes_on (Served Closed) now nonce mark mid ms ns text o p q each whole w = all_on now nonce mark mid ms ns text o p q each whole w
 writes_on (Served (BadFrame fault)) now nonce mark mid ms ns text o p q each whole w = all_on now nonce mark mid ms ns text o p q each whole w
@@ -128,7 +128,7 @@ writes_on (Served NoMemory) now nonce mark mid ms ns text o p q each whole w = s
 writes_on (Shrunk s) now nonce mark mid ms ns text o p q each whole w = before_on s now nonce mark mid ms ns text o p q each whole w
 
 -- an end after a move, where more bytes came
-pub stops_on : (now : Begun) (nonce : ℕ) (ending : Ending) (k l : ℕ) (u v piece : List ℕ) (a b : TipMark) (o p q : Option (List ℕ))
+pub stops_on : (now : Start) (nonce : ℕ) (ending : Ending) (k l : ℕ) (u v piece : List ℕ) (a b : TipMark) (o p q : Option (List ℕ))
     → Moves now nonce k l u v a b o p → Stops now nonce ending l (v ++ piece) b p q → Stops now nonce ending k (u ++ piece) a o q
 stops_on now nonce ending k l u v piece a b o p q first second =
     let c = course l (v ++ piece) in
@@ -139,16 +139,16 @@ stops_on now nonce ending k l u v piece a b o p q first second =
     let Q : Course → Type 0 = λ d. Writes ending now nonce a d.messages o q in
     record { comes = subst P (sym leads) second.comes; writes = subst Q (sym leads) whole }
 
-pub stops_then : (now : Begun) (nonce : ℕ) (ending : Ending) (k l : ℕ) (u v : List ℕ) (a b : TipMark) (o p q : Option (List ℕ))
+pub stops_then : (now : Start) (nonce : ℕ) (ending : Ending) (k l : ℕ) (u v : List ℕ) (a b : TipMark) (o p q : Option (List ℕ))
     → Moves now nonce k l u v a b o p → Stops now nonce ending l v b p q → Stops now nonce ending k u a o q
 stops_then now nonce ending k l u v a b o p q first second =
     subst (λ (x : List ℕ). Stops now nonce ending k x a o q) (append-nil u)
     (stops_on now nonce ending k l u v [] a b o p q first (subst (λ (x : List ℕ). Stops now nonce ending l x b p q) (sym (append-nil v)) second))
 
-nothing : (now : Begun) (nonce : ℕ) (mark : TipMark) (o : Option (List ℕ)) → AllWritten now nonce mark [] o o
+nothing : (now : Start) (nonce : ℕ) (mark : TipMark) (o : Option (List ℕ)) → AllWritten now nonce mark [] o o
 nothing now nonce mark o = record { last = mark; text = []; each = (refl, refl); whole = whole_none o }
 
-unwritten : (now : Begun) (nonce : ℕ) (mark : TipMark) (ms : List Msg) (o : Option (List ℕ)) → SomeWritten now nonce mark ms o o
+unwritten : (now : Start) (nonce : ℕ) (mark : TipMark) (ms : List Msg) (o : Option (List ℕ)) → SomeWritten now nonce mark ms o o
 unwritten now nonce mark ms o = record {
   answered = [];
   others = ms;
@@ -160,38 +160,38 @@ unwritten now nonce mark ms o = record {
 }
 
 -- nothing more is written
-pub stops_bad : (now : Begun) (nonce n : ℕ) (w : List ℕ) (fault : FrameFault) (mark : TipMark) (o : Option (List ℕ)) → front_of w ≡ Err fault
+pub stops_bad : (now : Start) (nonce n : ℕ) (w : List ℕ) (fault : FrameFault) (mark : TipMark) (o : Option (List ℕ)) → front_of w ≡ Err fault
     → Stops now nonce (Served (BadFrame fault)) (suc n) w mark o o
 stops_bad now nonce n w fault mark o e =
     let c = course_bad n w fault e in
     let Q : Course → Type 0 = λ d. AllWritten now nonce mark d.messages o o in
     record { comes = ap (λ (d : Course). d.stop) c; writes = subst Q (sym c) (nothing now nonce mark o) }
 
-pub stops_closed : (now : Begun) (nonce n : ℕ) (w : List ℕ) (mark : TipMark) (o : Option (List ℕ)) → front_of w ≡ Ok None → Stops now nonce (Served Closed) (suc n) w mark o o
+pub stops_closed : (now : Start) (nonce n : ℕ) (w : List ℕ) (mark : TipMark) (o : Option (List ℕ)) → front_of w ≡ Ok None → Stops now nonce (Served Closed) (suc n) w mark o o
 stops_closed now nonce n w mark o e =
     let c = course_waits n w e in
     let Q : Course → Type 0 = λ d. AllWritten now nonce mark d.messages o o in
     record { comes = ap (λ (d : Course). d.stop) c; writes = subst Q (sym c) (nothing now nonce mark o) }
 
-pub stops_unread : (now : Begun) (nonce n : ℕ) (w : List ℕ) (mark : TipMark) (o : Option (List ℕ)) → front_of w ≡ Ok None → Stops now nonce (Served ReadFault) (suc n) w mark o o
+pub stops_unread : (now : Start) (nonce n : ℕ) (w : List ℕ) (mark : TipMark) (o : Option (List ℕ)) → front_of w ≡ Ok None → Stops now nonce (Served ReadFault) (suc n) w mark o o
 stops_unread now nonce n w mark o e =
     let c = course_waits n w e in
     let Q : Course → Type 0 = λ d. AllWritten now nonce mark d.messages o o in
     record { comes = ap (λ (d : Course). d.stop) c; writes = subst Q (sym c) (nothing now nonce mark o) }
 
 -- as many frames were taken as may be
-pub stops_full : (now : Begun) (nonce : ℕ) (w : List ℕ) (mark : TipMark) (o : Option (List ℕ)) → Stops now nonce (Served Tired) 0 w mark o o
+pub stops_full : (now : Start) (nonce : ℕ) (w : List ℕ) (mark : TipMark) (o : Option (List ℕ)) → Stops now nonce (Served Tired) 0 w mark o o
 stops_full now nonce w mark o =
     let c = course_full w in
     let Q : Course → Type 0 = λ d. AllWritten now nonce mark d.messages o o in
     record { comes = ap (λ (d : Course). d.stop) c; writes = subst Q (sym c) (nothing now nonce mark o) }
 
 -- want of memory may come anywhere
-pub stops_without_memory : (now : Begun) (nonce n : ℕ) (w : List ℕ) (mark : TipMark) (o : Option (List ℕ)) → Stops now nonce (Served NoMemory) n w mark o o
+pub stops_without_memory : (now : Start) (nonce n : ℕ) (w : List ℕ) (mark : TipMark) (o : Option (List ℕ)) → Stops now nonce (Served NoMemory) n w mark o o
 stops_without_memory now nonce n w mark o = record { comes = tt; writes = unwritten now nonce mark (course n w).messages o }
 
 -- a frame that was not answered whole
-fails_part : (now : Begun) (nonce n : ℕ) (w rest : List ℕ) (f : Frame) (mark : TipMark) (o p : Option (List ℕ)) → front_of w ≡ Ok (Some (f, rest))
+fails_part : (now : Start) (nonce n : ℕ) (w rest : List ℕ) (f : Frame) (mark : TipMark) (o p : Option (List ℕ)) → front_of w ≡ Ok (Some (f, rest))
     → Fails now nonce (message_of f) mark o p → SomeWritten now nonce mark (course (suc n) w).messages o p
 fails_part now nonce n w rest f mark o p front (inl same) =
     subst (SomeWritten now nonce mark (course (suc n) w).messages o) (sym same) (unwritten now nonce mark (course (suc n) w).messages o)
@@ -207,7 +207,7 @@ fails_part now nonce n w rest f mark o p front (inr b) =
       begins = b.begins;
     }
 
-pub stops_frame : (now : Begun) (nonce n : ℕ) (w rest : List ℕ) (f : Frame) (mark next : TipMark) (o p : Option (List ℕ)) (ending : Ending)
+pub stops_frame : (now : Start) (nonce n : ℕ) (w rest : List ℕ) (f : Frame) (mark next : TipMark) (o p : Option (List ℕ)) (ending : Ending)
     → front_of w ≡ Ok (Some (f, rest)) → AnswersFrame (Err ending) now nonce (message_of f) mark next o p → Stops now nonce ending (suc n) w mark o p
 stops_frame now nonce n w rest f mark next o p (Served (MalformedFrame fault)) front answers =
     let c = course_frame_alone n w rest f (Err fault) front answers.0 in
@@ -241,7 +241,7 @@ stops_frame now nonce n w rest f mark next o p (Shrunk s) front answers =
 
 -- ---- the frames that wait
 
-pub finds_stops : (now : Begun) (nonce k : ℕ) (w new : List ℕ) (mark : TipMark) (o : Option (List ℕ)) (ending : Ending) → 1 ≤ k → FindsFrame (Err ending) w new
+pub finds_stops : (now : Start) (nonce k : ℕ) (w new : List ℕ) (mark : TipMark) (o : Option (List ℕ)) (ending : Ending) → 1 ≤ k → FindsFrame (Err ending) w new
     → Stops now nonce ending k w mark o o
 finds_stops now nonce zero w new mark o ending some finds = absurd (omega arith)
 finds_stops now nonce (suc n) w new mark o (Served (BadFrame fault)) some finds = stops_bad now nonce n w fault mark o finds
@@ -253,18 +253,18 @@ finds_stops now nonce (suc n) w new mark o (Served WriteFault) some finds = absu
 finds_stops now nonce (suc n) w new mark o (Served Tired) some finds = absurd finds
 finds_stops now nonce (suc n) w new mark o (Shrunk s) some finds = absurd finds
 
-pub frame_stops : (now : Begun) (nonce k : ℕ) (w rest : List ℕ) (f : Frame) (mark next : TipMark) (o p : Option (List ℕ)) (ending : Ending) → 1 ≤ k
+pub frame_stops : (now : Start) (nonce k : ℕ) (w rest : List ℕ) (f : Frame) (mark next : TipMark) (o p : Option (List ℕ)) (ending : Ending) → 1 ≤ k
     → front_of w ≡ Ok (Some (f, rest)) → AnswersFrame (Err ending) now nonce (message_of f) mark next o p → Stops now nonce ending k w mark o p
 frame_stops now nonce zero w rest f mark next o p ending some front answers = absurd (omega arith)
 frame_stops now nonce (suc n) w rest f mark next o p ending some front answers = stops_frame now nonce n w rest f mark next o p ending front answers
 
-pub frame_moves : (now : Begun) (nonce k l : ℕ) (w rest : List ℕ) (f : Frame) (mark next : TipMark) (o p : Option (List ℕ)) → k ≡ l + 1 → front_of w ≡ Ok (Some (f, rest))
+pub frame_moves : (now : Start) (nonce k l : ℕ) (w rest : List ℕ) (f : Frame) (mark next : TipMark) (o p : Option (List ℕ)) → k ≡ l + 1 → front_of w ≡ Ok (Some (f, rest))
     → Answered now nonce (message_of f) mark next o p → Moves now nonce k l w rest mark next o p
 frame_moves now nonce k l w rest f mark next o p one front answered =
     let here : suc l ≡ k = omega (arith, one) in
     subst (λ (n : ℕ). Moves now nonce n l w rest mark next o p) here (moves_frame now nonce l w rest f mark next o p front answered)
 
-pub tired_stops : (now : Begun) (nonce k l : ℕ) (u w : List ℕ) (a b : TipMark) (o p : Option (List ℕ)) → l ≡ 0 → Moves now nonce k l u w a b o p
+pub tired_stops : (now : Start) (nonce k l : ℕ) (u w : List ℕ) (a b : TipMark) (o p : Option (List ℕ)) → l ≡ 0 → Moves now nonce k l u w a b o p
     → Stops now nonce (Served Tired) k u a o p
 tired_stops now nonce k l u w a b o p none moves =
     let last = subst (λ (n : ℕ). Moves now nonce k n u w a b o p) none moves in
@@ -297,7 +297,7 @@ finds_inside (Served Tired) w new finds = tt
 finds_inside (Served NoMemory) w new finds = tt
 finds_inside (Shrunk s) w new finds = tt
 
-pub frame_inside : (ending : Ending) (now : Begun) (nonce : ℕ) (read : Result Msg Malformed) (mark next : TipMark) (o p : Option (List ℕ)) → AnswersFrame (Err ending) now nonce read mark next o p → EndsInside ending
+pub frame_inside : (ending : Ending) (now : Start) (nonce : ℕ) (read : Result Msg Malformed) (mark next : TipMark) (o p : Option (List ℕ)) → AnswersFrame (Err ending) now nonce read mark next o p → EndsInside ending
 frame_inside (Served Closed) now nonce read mark next o p answers = absurd answers
 frame_inside (Served (BadFrame fault)) now nonce read mark next o p answers = tt
 frame_inside (Served (MalformedFrame fault)) now nonce read mark next o p answers = tt
@@ -308,13 +308,13 @@ frame_inside (Served NoMemory) now nonce read mark next o p answers = tt
 frame_inside (Shrunk s) now nonce read mark next o p answers = tt
 
 -- a frame was answered with the time and the nonce that were handed in
-pub same_moment : (r : Result (Unit {0}) Ending) (time now : Begun) (number nonce : ℕ) (read : Result Msg Malformed) (mark next : TipMark) (o p : Option (List ℕ)) → time ≡ now → number ≡ nonce
+pub same_moment : (r : Result (Unit {0}) Ending) (time now : Start) (number nonce : ℕ) (read : Result Msg Malformed) (mark next : TipMark) (o p : Option (List ℕ)) → time ≡ now → number ≡ nonce
     → AnswersFrame r time number read mark next o p → AnswersFrame r now nonce read mark next o p
 same_moment r time now number nonce read mark next o p one two answers =
-    subst (λ (n : ℕ). AnswersFrame r now n read mark next o p) two (subst (λ (t : Begun). AnswersFrame r t number read mark next o p) one answers)
+    subst (λ (n : ℕ). AnswersFrame r now n read mark next o p) two (subst (λ (t : Start). AnswersFrame r t number read mark next o p) one answers)
 
 -- one frame more is taken and answered, at the moment that was told
-pub frame_taken : (now time : Begun) (nonce number k l : ℕ) (u v w : List ℕ) (f : Frame) (found : Option Frame) (a b c : TipMark) (o p q : Option (List ℕ)) → 1 ≤ l → found ≡ Some f
+pub frame_taken : (now time : Start) (nonce number k l : ℕ) (u v w : List ℕ) (f : Frame) (found : Option Frame) (a b c : TipMark) (o p q : Option (List ℕ)) → 1 ≤ l → found ≡ Some f
     → FindsFrame (Ok found) v w → Moves now nonce k l u v a b o p → (time ≡ now) × (number ≡ nonce) → AnswersFrame (Ok tt) time number (message_of f) b c p q
     → Moves now nonce k (l - 1) u w a c o q
 frame_taken now time nonce number k l u v w f found a b c o p q room is finds moves moment answers =
@@ -326,7 +326,7 @@ frame_taken now time nonce number k l u v w f found a b c o p q room is finds mo
 -- ---- the connection as a whole
 
 -- before the first byte
-pub midway_begins : (now : Begun) (nonce : ℕ) (bytes : List ℕ) (left o : Option (List ℕ)) (k : ℕ) (w : List ℕ) (mark : TipMark) → left ≡ Some bytes → k ≡ most_frames → w ≡ [] → mark ≡ NotMet
+pub midway_begins : (now : Start) (nonce : ℕ) (bytes : List ℕ) (left o : Option (List ℕ)) (k : ℕ) (w : List ℕ) (mark : TipMark) → left ≡ Some bytes → k ≡ most_frames → w ≡ [] → mark ≡ NotMet
     → Midway now nonce bytes left k w mark o o
 midway_begins now nonce bytes left o k w mark told most none same =
     let first : Midway now nonce bytes (Some bytes) most_frames [] NotMet o o = record { taken = []; rest = refl; moves = moves_none now nonce most_frames [] NotMet o } in
@@ -336,7 +336,7 @@ midway_begins now nonce bytes left o k w mark told most none same =
     subst (λ (x : TipMark). Midway now nonce bytes left k w x o o) (sym same) c
 
 -- a turn of the loop: a piece was read, and its frames were answered
-pub midway_turn : (now : Begun) (nonce : ℕ) (bytes piece : List ℕ) (left between left_after : Option (List ℕ)) (k l : ℕ) (v w : List ℕ) (a b : TipMark) (o p p_read q : Option (List ℕ))
+pub midway_turn : (now : Start) (nonce : ℕ) (bytes piece : List ℕ) (left between left_after : Option (List ℕ)) (k l : ℕ) (v w : List ℕ) (a b : TipMark) (o p p_read q : Option (List ℕ))
     → Midway now nonce bytes left k v a o p → left ≡ with_front piece between → left_after ≡ between → p_read ≡ p → Moves now nonce k l (v ++ piece) w a b p_read q
     → Midway now nonce bytes left_after l w b o q
 midway_turn now nonce bytes piece left between left_after k l v w a b o p p_read q midway read kept same moves = record {
@@ -347,7 +347,7 @@ midway_turn now nonce bytes piece left between left_after k l v w a b o p p_read
 }
 
 -- or serving ended there
-pub midway_last : (now : Begun) (nonce : ℕ) (bytes piece : List ℕ) (left between left_after : Option (List ℕ)) (k : ℕ) (v : List ℕ) (a : TipMark) (o p p_read q : Option (List ℕ)) (ending : Ending)
+pub midway_last : (now : Start) (nonce : ℕ) (bytes piece : List ℕ) (left between left_after : Option (List ℕ)) (k : ℕ) (v : List ℕ) (a : TipMark) (o p p_read q : Option (List ℕ)) (ending : Ending)
     → Midway now nonce bytes left k v a o p → left ≡ with_front piece between → left_after ≡ between → p_read ≡ p → Stops now nonce ending k (v ++ piece) a p_read q
     → IsServedGrowing now nonce ending bytes left_after o q
 midway_last now nonce bytes piece left between left_after k v a o p p_read q ending midway read kept same stops =
@@ -361,7 +361,7 @@ midway_last now nonce bytes piece left between left_after k v a o p p_read q end
     }
 
 -- the source ended, or failed, while no whole frame waits
-pub served_so_far : (now : Begun) (nonce : ℕ) (bytes piece : List ℕ) (left left_after : Option (List ℕ)) (k : ℕ) (v : List ℕ) (mark : TipMark) (o p q : Option (List ℕ)) (ending : Ending)
+pub served_so_far : (now : Start) (nonce : ℕ) (bytes piece : List ℕ) (left left_after : Option (List ℕ)) (k : ℕ) (v : List ℕ) (mark : TipMark) (o p q : Option (List ℕ)) (ending : Ending)
     → Midway now nonce bytes left k v mark o p → left ≡ with_front piece left_after → piece ≡ [] → q ≡ p → 1 ≤ k
     → ((n : ℕ) → Stops now nonce ending (suc n) v mark p p) → IsServedGrowing now nonce ending bytes left_after o q
 served_so_far now nonce bytes piece left left_after zero v mark o p q ending midway read none same some ends = absurd (omega arith)
@@ -372,22 +372,22 @@ served_so_far now nonce bytes piece left left_after (suc n) v mark o p q ending 
     (subst (λ (x : List ℕ). Stops now nonce ending (suc n) x mark p p) here (ends n)))
 
 -- the moment that was handed in
-pub moves_at : (time now : Begun) (number nonce k l : ℕ) (v w : List ℕ) (a b : TipMark) (o p : Option (List ℕ)) → time ≡ now → number ≡ nonce
+pub moves_at : (time now : Start) (number nonce k l : ℕ) (v w : List ℕ) (a b : TipMark) (o p : Option (List ℕ)) → time ≡ now → number ≡ nonce
     → Moves time number k l v w a b o p → Moves now nonce k l v w a b o p
 moves_at time now number nonce k l v w a b o p one two moves =
-    subst (λ (n : ℕ). Moves now n k l v w a b o p) two (subst (λ (t : Begun). Moves t number k l v w a b o p) one moves)
+    subst (λ (n : ℕ). Moves now n k l v w a b o p) two (subst (λ (t : Start). Moves t number k l v w a b o p) one moves)
 
-pub stops_at : (time now : Begun) (number nonce k : ℕ) (v : List ℕ) (ending : Ending) (a : TipMark) (o p : Option (List ℕ)) → time ≡ now → number ≡ nonce
+pub stops_at : (time now : Start) (number nonce k : ℕ) (v : List ℕ) (ending : Ending) (a : TipMark) (o p : Option (List ℕ)) → time ≡ now → number ≡ nonce
     → Stops time number ending k v a o p → Stops now nonce ending k v a o p
 stops_at time now number nonce k v ending a o p one two stops =
-    subst (λ (n : ℕ). Stops now n ending k v a o p) two (subst (λ (t : Begun). Stops t number ending k v a o p) one stops)
+    subst (λ (n : ℕ). Stops now n ending k v a o p) two (subst (λ (t : Start). Stops t number ending k v a o p) one stops)
 
-pub at_moment : (z now : Begun) (nonce : ℕ) (bytes : List ℕ) (left : Option (List ℕ)) (k : ℕ) (v : List ℕ) (a : TipMark) (o p : Option (List ℕ)) → z ≡ now
+pub at_moment : (z now : Start) (nonce : ℕ) (bytes : List ℕ) (left : Option (List ℕ)) (k : ℕ) (v : List ℕ) (a : TipMark) (o p : Option (List ℕ)) → z ≡ now
     → Midway z nonce bytes left k v a o p → Midway now nonce bytes left k v a o p
-at_moment z now nonce bytes left k v a o p same midway = subst (λ (y : Begun). Midway y nonce bytes left k v a o p) same midway
+at_moment z now nonce bytes left k v a o p same midway = subst (λ (y : Start). Midway y nonce bytes left k v a o p) same midway
 
 -- so serving ends where no more comes
-pub served_ends : (told : Option (List ℕ)) (z now : Begun) (nonce : ℕ) (piece : List ℕ) (left left_after : Option (List ℕ)) (k : ℕ) (v : List ℕ) (mark : TipMark) (o p q : Option (List ℕ)) (ending : Ending) → z ≡ now
+pub served_ends : (told : Option (List ℕ)) (z now : Start) (nonce : ℕ) (piece : List ℕ) (left left_after : Option (List ℕ)) (k : ℕ) (v : List ℕ) (mark : TipMark) (o p q : Option (List ℕ)) (ending : Ending) → z ≡ now
     → IfSome told (λ bytes. Midway z nonce bytes left k v mark o p) → left ≡ with_front piece left_after → piece ≡ [] → q ≡ p → 1 ≤ k → ((n : ℕ) → Stops now nonce ending (suc n) v mark p p)
     → IfSome told (λ bytes. IsServedGrowing now nonce ending bytes left_after o q)
 served_ends told z now nonce piece left left_after k v mark o p q ending same midway read none kept some ends =
@@ -395,7 +395,7 @@ served_ends told z now nonce piece left left_after k v mark o p q ending same mi
     (λ bytes is way. served_so_far now nonce bytes piece left left_after k v mark o p q ending (at_moment z now nonce bytes left k v mark o p same way) read none kept some ends) midway
 
 -- and where a piece ends it
-pub served_last : (told : Option (List ℕ)) (z now time : Begun) (nonce number : ℕ) (piece : List ℕ) (left between left_after : Option (List ℕ)) (k : ℕ) (v : List ℕ) (mark : TipMark) (o p p_read q : Option (List ℕ)) (ending : Ending) → z ≡ now
+pub served_last : (told : Option (List ℕ)) (z now time : Start) (nonce number : ℕ) (piece : List ℕ) (left between left_after : Option (List ℕ)) (k : ℕ) (v : List ℕ) (mark : TipMark) (o p p_read q : Option (List ℕ)) (ending : Ending) → z ≡ now
     → IfSome told (λ bytes. Midway z nonce bytes left k v mark o p) → left ≡ with_front piece between → left_after ≡ between → p_read ≡ p → time ≡ z → number ≡ nonce
     → Stops time number ending k (v ++ piece) mark p_read q → IfSome told (λ bytes. IsServedGrowing now nonce ending bytes left_after o q)
 served_last told z now time nonce number piece left between left_after k v mark o p p_read q ending same midway read kept wrote one two stops =
@@ -404,7 +404,7 @@ served_last told z now time nonce number piece left between left_after k v mark 
     (stops_at time now number nonce k (v ++ piece) ending mark p_read q (one ∙ same) two stops)) midway
 
 -- and where it goes on behind a piece
-pub midway_goes : (told : Option (List ℕ)) (now time : Begun) (nonce number : ℕ) (piece : List ℕ) (left between left_after : Option (List ℕ)) (k l : ℕ) (v w : List ℕ) (a b : TipMark) (o p p_read q : Option (List ℕ))
+pub midway_goes : (told : Option (List ℕ)) (now time : Start) (nonce number : ℕ) (piece : List ℕ) (left between left_after : Option (List ℕ)) (k l : ℕ) (v w : List ℕ) (a b : TipMark) (o p p_read q : Option (List ℕ))
     → IfSome told (λ bytes. Midway now nonce bytes left k v a o p) → left ≡ with_front piece between → left_after ≡ between → p_read ≡ p → time ≡ now → number ≡ nonce
     → Moves time number k l (v ++ piece) w a b p_read q → IfSome told (λ bytes. Midway now nonce bytes left_after l w b o q)
 midway_goes told now time nonce number piece left between left_after k l v w a b o p p_read q midway read kept same one two moves =

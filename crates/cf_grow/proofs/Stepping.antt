@@ -16,7 +16,7 @@ use Rattle.cf_grow.specs.declared.mark.Shrunk.{Shrunk as Hashes}
 use Rattle.cf_grow.specs.declared.mark.TakeFail.{TakeFail}
 use Rattle.cf_grow.specs.declared.mark.TakeFail.TheVariants.{Shrunk as NotThere, NoMemory as OutOfMemory}
 use Rattle.cf_grow.specs.Growing.{begun_in, told_by, mark_of, IsRefusal, IsRefused, IsStep, Misses}
-use Rattle.cf_grow.specs.Standing.{Begun, hash_in, StandsOn}
+use Rattle.cf_grow.specs.Standing.{Start, hash_in, StandsOn}
 use Rattle.cf_grow.specs.Held.{text_all}
 use Rattle.cf_grow.specs.Serving.{Answers, Answered, AnswersFrame, IsShrunk, ending_of}
 use Rattle.cf_msg.specs.declared.msg.Msg.{Msg}
@@ -52,7 +52,7 @@ step_answers mark now m taken step = record {
 }
 
 -- a refusal tells of a good chain that hasn't what was told
-shrunk_by : (now : Begun) (seen : Bool) (height : ℕ) (hash : Hash32) (s : Hashes) (blocks : List Block) → IsGoodChain blocks
+shrunk_by : (now : Start) (seen : Bool) (height : ℕ) (hash : Hash32) (s : Hashes) (blocks : List Block) → IsGoodChain blocks
     → seen ≡ true → Misses blocks height hash s → IsShrunk now (told_by seen height hash) s
 shrunk_by now seen height hash s blocks good met misses = record {
   chain = blocks;
@@ -64,7 +64,7 @@ shrunk_by now seen height hash s blocks good met misses = record {
 }
 
 -- or the tip that the server began with
-shrunk_first : (now : Begun) (mark : TipMark) (s : Hashes) (blocks : List Block) → IsGoodChain blocks → Misses blocks now.tip.height now.tip.hash s
+shrunk_first : (now : Start) (mark : TipMark) (s : Hashes) (blocks : List Block) → IsGoodChain blocks → Misses blocks now.tip.height now.tip.hash s
     → IsShrunk now mark s
 shrunk_first now mark s blocks good misses = record {
   chain = blocks;
@@ -87,7 +87,7 @@ refused_frame (NotThere s) nonce read m mark next o is refused = ((m, is), shrun
 refused_frame OutOfMemory nonce read m mark next o is refused = inl refl
 
 -- one whose answer is sent in part
-pub frame_failed : (outcome : ServeEnd) (now : Begun) (nonce : ℕ) (read : Result Msg Malformed) (m : Msg) (mark next : TipMark) (text : List ℕ) (o p : Option (List ℕ)) → read ≡ Ok m
+pub frame_failed : (outcome : ServeEnd) (now : Start) (nonce : ℕ) (read : Result Msg Malformed) (m : Msg) (mark next : TipMark) (text : List ℕ) (o p : Option (List ℕ)) → read ≡ Ok m
     → Answers now nonce mark m next text → Sends (Err outcome) o p text → AnswersFrame (Err (Served outcome)) now nonce read mark next o p
 frame_failed WriteFault now nonce read m mark next text o p is answers sends = inr (record { message = m; is = is; next = next; text = text; answers = answers; begins = sends })
 frame_failed NoMemory now nonce read m mark next text o p is answers sends = inr (record { message = m; is = is; next = next; text = text; answers = answers; begins = sends })
@@ -98,6 +98,6 @@ frame_failed ReadFault now nonce read m mark next text o p is answers sends = ab
 frame_failed Tired now nonce read m mark next text o p is answers sends = absurd sends
 
 -- one whose answer is sent whole
-pub frame_answered : (now : Begun) (nonce : ℕ) (read : Result Msg Malformed) (m : Msg) (mark next : TipMark) (text : List ℕ) (o p : Option (List ℕ)) → read ≡ Ok m
+pub frame_answered : (now : Start) (nonce : ℕ) (read : Result Msg Malformed) (m : Msg) (mark next : TipMark) (text : List ℕ) (o p : Option (List ℕ)) → read ≡ Ok m
     → Answers now nonce mark m next text → Whole o p text → Answered now nonce read mark next o p
 frame_answered now nonce read m mark next text o p is answers whole = record { message = m; is = is; text = text; answers = answers; written = whole }

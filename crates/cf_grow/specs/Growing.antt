@@ -19,7 +19,7 @@ use Rattle.cf_msg.specs.Reading.{message_of}
 use Rattle.cf_server.specs.declared.answering.Serving.{Serving}
 use Rattle.cf_server.specs.Replies.{messages_of, AreRepliesOf}
 use Rattle.cf_server.specs.Serving.{text_of}
-use Rattle.cf_grow.specs.Standing.{Begun, Keeps, hash_in}
+use Rattle.cf_grow.specs.Standing.{Start, Keeps, hash_in}
 
 -- what was told, by what is kept of it
 abbrev pub told_by : Bool → ℕ → Hash32 → TipMark
@@ -80,7 +80,7 @@ RefusesBy mark (Ok x) = Unit {0}
 RefusesBy mark (Err e) = IsRefused mark e
 
 -- what the server began with
-abbrev pub begun_in : ServedMark → Begun
+abbrev pub begun_in : ServedMark → Start
 begun_in mark = record { time = mark.served.time; tip = mark.first }
 
 -- that and the nonce of the server's own version stay

@@ -3,7 +3,7 @@ use Rattle.std.specs.Prelude.{◌≡◌, ℕ, ℤ, IfSome}
 use Rattle.cf_conn.specs.Told.{ConnTold}
 use Rattle.cf_grow.specs.declared.ending.Ending.{Ending}
 use Rattle.cf_grow.specs.declared.mark.Tip.{Tip}
-use Rattle.cf_grow.specs.Standing.{Begun}
+use Rattle.cf_grow.specs.Standing.{Start}
 use Rattle.cf_grow.specs.Serving.{IsServedGrowing, EndsOf, CountsOf, ending_number}
 
 -- the time and the nonce of its `version`, and the tip that its chain began with; its chain is what the lock holds at each message
@@ -13,7 +13,7 @@ pub record Moment : Type 0 where
   pub tip : Tip
 
 -- what it began with
-abbrev pub begun_at : Moment → Begun
+abbrev pub begun_at : Moment → Start
 begun_at at = record { time = at.moment; tip = at.tip }
 
 -- Of a connection, from what it told as it was accepted to what it told as it was closed: it ended by an ending of this number, by then each message was

@@ -3,7 +3,7 @@ use Rattle.std.specs.Prelude.{ℕ, List, ◌++◌}
 use Rattle.std.specs.List.{flat_map}
 use Rattle.cf_frame.specs.Frame.{spelling}
 use Rattle.cf_grow.specs.declared.held.Held.{Held}
-use Rattle.cf_grow.specs.declared.held.Parts.{Parts}
+use Rattle.cf_grow.specs.declared.parts.Parts.{Parts}
 use Rattle.cf_grow.specs.declared.held.Held.TheVariants.{Bytes, Block, Filter}
 use Rattle.cf_msg.specs.declared.msg.Msg.TheVariants.{Block as BlockMessage, Cfilter}
 use Rattle.cf_msg.specs.Message.{frame_of}

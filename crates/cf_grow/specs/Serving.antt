@@ -1,6 +1,7 @@
 -- statement: what a connection is served by a chain that grows, message by message.
 use Rattle.std.specs.Prelude.{◌≡◌, ◌⊎◌, ℕ, Bool, List, [], ◌∷◌, ◌++◌, Option, Some, None, Result, Ok, Err}
 use Rattle.cf_bytes.specs.Outside.{HasRisen}
+use Rattle.cf_bytes.specs.declared.hash.Hash32.{Hash32}
 use Rattle.cf_conn.specs.Source.{with_front}
 use Rattle.cf_block.specs.declared.tx.Block.{Block}
 use Rattle.cf_chain.specs.Good.{IsGoodChain}
@@ -12,7 +13,7 @@ use Rattle.cf_grow.specs.declared.ending.Ending.TheVariants.{Served, Shrunk}
 use Rattle.cf_grow.specs.declared.mark.Shrunk.{Shrunk as Hashes}
 use Rattle.cf_grow.specs.declared.mark.TakeFail.{TakeFail}
 use Rattle.cf_grow.specs.declared.mark.TakeFail.TheVariants.{Shrunk as NotThere, NoMemory as OutOfMemory}
-use Rattle.cf_grow.specs.Standing.{Begun, Keeps, StandsOn, hash_in}
+use Rattle.cf_grow.specs.Standing.{Start, Keeps, StandsOn, hash_in}
 use Rattle.cf_msg.specs.declared.msg.Msg.{Msg}
 use Rattle.cf_msg.specs.declared.msg.Malformed.{Malformed}
 use Rattle.cf_server.specs.declared.outcome.ServeEnd.TheVariants.{BadFrame, Malformed as MalformedFrame, WriteFault, NoMemory}
@@ -23,7 +24,7 @@ use Rattle.cf_server.specs.Taking.{with_messages, ComesInside}
 -- ---- message by message
 
 -- one message was answered by a good chain that has the first tip, and on which the mark stands: this is written, and the mark stands there next
-pub record Answers (moment : Begun) (nonce : ℕ) (mark : TipMark) (m : Msg) (next : TipMark) (text : List ℕ) : Type 0 where
+pub record Answers (moment : Start) (nonce : ℕ) (mark : TipMark) (m : Msg) (next : TipMark) (text : List ℕ) : Type 0 where
   pub chain : List Block
   pub good : IsGoodChain chain
   pub keeps : Keeps chain moment.tip
@@ -32,7 +33,7 @@ pub record Answers (moment : Begun) (nonce : ℕ) (mark : TipMark) (m : Msg) (ne
   pub moved : next ≡ (grow_answer moment.time nonce chain mark m).mark
 
 -- the same of messages, one after another, each with the mark that the one before has left
-abbrev pub AnswersEach : Begun → ℕ → TipMark → List Msg → TipMark → List ℕ → Type 0
+abbrev pub AnswersEach : Start → ℕ → TipMark → List Msg → TipMark → List ℕ → Type 0
 AnswersEach moment nonce mark [] last text = (last ≡ mark) × (text ≡ [])
 AnswersEach moment nonce mark (m ∷ ms) last text =
     (next : TipMark) × (first : List ℕ) × (rest : List ℕ)
@@ -51,14 +52,14 @@ ending_of (NotThere s) = Shrunk s
 ending_of OutOfMemory = Served NoMemory
 
 -- all messages were answered
-pub record AllWritten (moment : Begun) (nonce : ℕ) (mark : TipMark) (messages : List Msg) (before after : Option (List ℕ)) : Type 0 where
+pub record AllWritten (moment : Start) (nonce : ℕ) (mark : TipMark) (messages : List Msg) (before after : Option (List ℕ)) : Type 0 where
   pub last : TipMark
   pub text : List ℕ
   pub each : AnswersEach moment nonce mark messages last text
   pub whole : Whole before after text
 
 -- some of them from the first on were answered, and of what is written for these a beginning stands
-pub record SomeWritten (moment : Begun) (nonce : ℕ) (mark : TipMark) (messages : List Msg) (before after : Option (List ℕ)) : Type 0 where
+pub record SomeWritten (moment : Start) (nonce : ℕ) (mark : TipMark) (messages : List Msg) (before after : Option (List ℕ)) : Type 0 where
   pub answered : List Msg
   pub others : List Msg
   pub split : messages ≡ answered ++ others
@@ -68,11 +69,11 @@ pub record SomeWritten (moment : Begun) (nonce : ℕ) (mark : TipMark) (messages
   pub begins : Beginning before after text
 
 -- this hash was told at this height, or stood there as the server began
-abbrev pub WasThere : Begun → TipMark → ℕ → Hash32 → Type 0
+abbrev pub WasThere : Start → TipMark → ℕ → Hash32 → Type 0
 WasThere moment mark height hash = (mark ≡ TipTold height hash.0) ⊎ ((moment.tip.height ≡ height) × (moment.tip.hash ≡ hash))
 
 -- some good chain has another hash at the height that was told, or at that of the first tip, or is lower: these are the hash that was there and the one there
-pub record IsShrunk (moment : Begun) (mark : TipMark) (hashes : Hashes) : Type 0 where
+pub record IsShrunk (moment : Start) (mark : TipMark) (hashes : Hashes) : Type 0 where
   pub chain : List Block
   pub good : IsGoodChain chain
   pub height : ℕ
@@ -81,7 +82,7 @@ pub record IsShrunk (moment : Begun) (mark : TipMark) (hashes : Hashes) : Type 0
   pub other : hashes.found ≡ Some hashes.seen → ⊥
 
 -- all before one of them were answered, and that one finds a chain that hasn't what a `version` has set, or what the server began with
-pub record WrittenBefore (hashes : Hashes) (moment : Begun) (nonce : ℕ) (mark : TipMark) (messages : List Msg)
+pub record WrittenBefore (hashes : Hashes) (moment : Start) (nonce : ℕ) (mark : TipMark) (messages : List Msg)
     (before after : Option (List ℕ)) : Type 0 where
   pub answered : List Msg
   pub refused : Msg
@@ -94,7 +95,7 @@ pub record WrittenBefore (hashes : Hashes) (moment : Begun) (nonce : ℕ) (mark 
   pub whole : Whole before after text
 
 -- what is written by then
-abbrev pub Writes : Ending → Begun → ℕ → TipMark → List Msg → Option (List ℕ) → Option (List ℕ) → Type 0
+abbrev pub Writes : Ending → Start → ℕ → TipMark → List Msg → Option (List ℕ) → Option (List ℕ) → Type 0
 Writes (Served WriteFault) moment nonce mark messages before after = SomeWritten moment nonce mark messages before after
 Writes (Served NoMemory) moment nonce mark messages before after = SomeWritten moment nonce mark messages before after
 Writes (Served outcome) moment nonce mark messages before after = AllWritten moment nonce mark messages before after
@@ -106,7 +107,7 @@ Comes (Served outcome) stop = ComesAt outcome stop
 Comes (Shrunk s) stop = Unit {0}
 
 -- Of a connection whose source told these bytes: those of them that were taken, where the ending comes, and what was written for them.
-pub record IsServedGrowing (moment : Begun) (nonce : ℕ) (ending : Ending) (bytes : List ℕ) (left before after : Option (List ℕ)) : Type 0 where
+pub record IsServedGrowing (moment : Start) (nonce : ℕ) (ending : Ending) (bytes : List ℕ) (left before after : Option (List ℕ)) : Type 0 where
   pub taken : List ℕ
   pub rest : Some bytes ≡ with_front taken left
   pub comes : Comes ending (course most_frames taken).stop
@@ -130,14 +131,14 @@ CountsSends (Err (Served WriteFault)) before after = HasRisen before after
 CountsSends result before after = after ≡ before
 
 -- what became of a frame
-pub record Answered (moment : Begun) (nonce : ℕ) (read : Result Msg Malformed) (old new : TipMark) (before after : Option (List ℕ)) : Type 0 where
+pub record Answered (moment : Start) (nonce : ℕ) (read : Result Msg Malformed) (old new : TipMark) (before after : Option (List ℕ)) : Type 0 where
   pub message : Msg
   pub is : read ≡ Ok message
   pub text : List ℕ
   pub answers : Answers moment nonce old message new text
   pub written : Whole before after text
 
-pub record Begun (moment : Begun) (nonce : ℕ) (read : Result Msg Malformed) (old : TipMark) (before after : Option (List ℕ)) : Type 0 where
+pub record Begun (moment : Start) (nonce : ℕ) (read : Result Msg Malformed) (old : TipMark) (before after : Option (List ℕ)) : Type 0 where
   pub message : Msg
   pub is : read ≡ Ok message
   pub next : TipMark
@@ -146,10 +147,10 @@ pub record Begun (moment : Begun) (nonce : ℕ) (read : Result Msg Malformed) (o
   pub begins : Beginning before after text
 
 -- a frame that can't be answered has nothing written for it, or a beginning
-abbrev pub Fails : Begun → ℕ → Result Msg Malformed → TipMark → Option (List ℕ) → Option (List ℕ) → Type 0
+abbrev pub Fails : Start → ℕ → Result Msg Malformed → TipMark → Option (List ℕ) → Option (List ℕ) → Type 0
 Fails moment nonce read old before after = (after ≡ before) ⊎ Begun moment nonce read old before after
 
-abbrev pub AnswersFrame : Result (Unit {0}) Ending → Begun → ℕ → Result Msg Malformed → TipMark → TipMark → Option (List ℕ) → Option (List ℕ) → Type 0
+abbrev pub AnswersFrame : Result (Unit {0}) Ending → Start → ℕ → Result Msg Malformed → TipMark → TipMark → Option (List ℕ) → Option (List ℕ) → Type 0
 AnswersFrame (Ok x) moment nonce read old new before after = Answered moment nonce read old new before after
 AnswersFrame (Err (Served (MalformedFrame fault))) moment nonce read old new before after = (read ≡ Err fault) × (after ≡ before)
 AnswersFrame (Err (Served WriteFault)) moment nonce read old new before after = Fails moment nonce read old before after
@@ -167,7 +168,7 @@ FindsFrame (Err (Served NoMemory)) old new = Unit {0}
 FindsFrame (Err ending) old new = ⊥
 
 -- Frames were taken and answered: so many may still come, and these bytes wait. Whatever follows, what is left leads to the same end.
-pub record Moves (moment : Begun) (nonce : ℕ) (frames frames_after : ℕ) (waits waits_after : List ℕ) (old new : TipMark) (before after : Option (List ℕ)) : Type 0 where
+pub record Moves (moment : Start) (nonce : ℕ) (frames frames_after : ℕ) (waits waits_after : List ℕ) (old new : TipMark) (before after : Option (List ℕ)) : Type 0 where
   pub messages : List Msg
   pub leads : (more : List ℕ) → course frames (waits ++ more) ≡ with_messages messages (course frames_after (waits_after ++ more))
   pub text : List ℕ
@@ -175,17 +176,17 @@ pub record Moves (moment : Begun) (nonce : ℕ) (frames frames_after : ℕ) (wai
   pub written : Whole before after text
 
 -- an end of serving: where it comes, and what is written by then
-pub record Stops (moment : Begun) (nonce : ℕ) (ending : Ending) (frames : ℕ) (waits : List ℕ) (mark : TipMark) (before after : Option (List ℕ)) : Type 0 where
+pub record Stops (moment : Start) (nonce : ℕ) (ending : Ending) (frames : ℕ) (waits : List ℕ) (mark : TipMark) (before after : Option (List ℕ)) : Type 0 where
   pub comes : Comes ending (course frames waits).stop
   pub writes : Writes ending moment nonce mark (course frames waits).messages before after
 
 -- all frames that wait were taken, or serving ends
-abbrev pub TakesFrames : Result (Unit {0}) Ending → Begun → ℕ → ℕ → ℕ → List ℕ → List ℕ → TipMark → TipMark → Option (List ℕ) → Option (List ℕ) → Type 0
+abbrev pub TakesFrames : Result (Unit {0}) Ending → Start → ℕ → ℕ → ℕ → List ℕ → List ℕ → TipMark → TipMark → Option (List ℕ) → Option (List ℕ) → Type 0
 TakesFrames (Ok x) moment nonce frames frames_after waits waits_after old new before after = Moves moment nonce frames frames_after waits waits_after old new before after
 TakesFrames (Err ending) moment nonce frames frames_after waits waits_after old new before after = Stops moment nonce ending frames waits old before after
 
 -- on the way through the bytes that a source told
-pub record Midway (moment : Begun) (nonce : ℕ) (bytes : List ℕ) (left : Option (List ℕ)) (frames : ℕ) (waits : List ℕ) (mark : TipMark) (before after : Option (List ℕ)) : Type 0 where
+pub record Midway (moment : Start) (nonce : ℕ) (bytes : List ℕ) (left : Option (List ℕ)) (frames : ℕ) (waits : List ℕ) (mark : TipMark) (before after : Option (List ℕ)) : Type 0 where
   pub taken : List ℕ
   pub rest : Some bytes ≡ with_front taken left
   pub moves : Moves moment nonce most_frames frames taken waits NotMet mark before after

@@ -25,6 +25,6 @@ abbrev pub Keeps : List Block → Tip → Type 0
 Keeps blocks tip = hash_in blocks tip.height ≡ Some tip.hash
 
 -- what a server that grows began with: the time of its `version`, and the tip of its chain
-pub record Begun : Type 0 where
+pub record Start : Type 0 where
   pub time : ℤ
   pub tip : Tip

@@ -9,8 +9,9 @@ ghost use Rattle.cf_msg.specs.declared.msg.Msg.TheVariants.{Block as BlockMessag
 ghost use Rattle.cf_msg.specs.{HasSpelling, message_of as message_in};
 ghost use Rattle.cf_server.specs.{text_of};
 
-use crate::held::{Parts, hold_answer};
+use crate::held::hold_answer;
 use crate::mark::{ServedMark, TakeFail};
+use crate::parts::Parts;
 use crate::refused::RefusedBlocks;
 use crate::taking::take_at;
 use cf_block::Block;

@@ -8,16 +8,18 @@ ghost use Rattle.cf_grow.specs.Growing.{messages_in, news_in};
 ghost use Rattle.cf_grow.specs.declared.held.Held.{Held as HeldPart};
 ghost use Rattle.cf_grow.specs.declared.held.Held.TheVariants.{Block as BlockPart};
 ghost use Rattle.cf_grow.specs.Held.{text_all, text_in, texts_in};
-ghost use Rattle.cf_msg.specs.declared.msg.Msg.TheVariants.{Block as BlockMessage, Cfilter as CfilterMessage};
+ghost use Rattle.cf_msg.specs.declared.msg.Msg.TheVariants.{Block as BlockMessage};
 ghost use Rattle.cf_msg.specs.{IsEntry, IsWithinLimits, frame_of, payload_of};
 ghost use Rattle.cf_server.specs.{AreRepliesOf, IsReplyOf, message_of, messages_of, text_of};
 
+use crate::filter::HeldFilter;
+use crate::parts::Parts;
 use crate::taking::Answer;
 use cf_bytes::{Hash32, Listed, NoMemory};
 use cf_frame::encode;
-use cf_index::{Index, SharedBlock, SharedFilter};
+use cf_index::{Index, SharedBlock};
 use cf_msg::{BLOCK_KIND, Bytes, Entries, Inventory, Msg, frame_block};
-use cf_server::{Reply, Serving, filter_bytes, message_bytes, write_reply};
+use cf_server::{Reply, Serving, message_bytes, write_reply};
 use std::alloc::Global;
 use std::marker::Model;
 
@@ -56,24 +58,6 @@ impl HeldBlock {
     }
 }
 
-/// A filter that is to be sent, and its block's hash. It is shared with the chain, and fits into a frame.
-#[derive(Drop)]
-pub struct HeldFilter {
-    block: Hash32,
-    filter: SharedFilter,
-    ghost few: { length filter ≤ 3999900 },
-}
-
-impl HeldFilter {
-    // The bytes of its frame.
-    fn frame(&self, alloc: Global) -> Result<Vec<u8>, NoMemory>
-        ensures { IfOk result
-            (λ bytes. bytes.items ≡ spelling (frame_of (CfilterMessage 0 self.now.block self.now.filter))) }
-    {
-        filter_bytes(alloc, &self.block, self.filter.as_slice())
-    }
-}
-
 /// A part of an answer.
 #[derive(Drop)]
 pub enum Held {
@@ -92,21 +76,17 @@ impl Held {
     {
         match self {
             Held::Bytes(bytes) => waiting.extend_from_slice(bytes.as_slice())?,
-            Held::Block(block) => put_frame(block.frame(alloc), waiting)?,
-            Held::Filter(filter) => put_frame(filter.frame(alloc), waiting)?,
+            Held::Block(block) => {
+                let frame = block.frame(alloc)?;
+                waiting.extend_from_slice(&frame)?;
+            }
+            Held::Filter(filter) => {
+                let frame = filter.frame(alloc)?;
+                waiting.extend_from_slice(&frame)?;
+            }
         }
         Ok(())
     }
-}
-
-// Puts a frame at the end of the bytes that wait.
-fn put_frame(frame: Result<Vec<u8>, NoMemory>, waiting: &mut Vec<u8>) -> Result<(), NoMemory>
-    ensures { (text : List ℕ) → IfOk frame (λ bytes. bytes.items ≡ text)
-        → OnOk result (waiting.new.items ≡ waiting.old.items ++ text) }
-{
-    let bytes = frame?;
-    waiting.extend_from_slice(&bytes)?;
-    Ok(())
 }
 
 /// Parts in their order. Contracts see them as a list. Many blocks may be asked for at once: each at the front takes
@@ -173,19 +153,12 @@ impl HeldParts {
     {
         let first = self.blocks.len();
         if place < first {
-            return put_frame(self.blocks.as_slice()[place].frame(alloc), waiting);
+            let frame = self.blocks.as_slice()[place].frame(alloc)?;
+            waiting.extend_from_slice(&frame)?;
+            return Ok(());
         }
         self.others.as_slice()[place - first].put(alloc, waiting)
     }
-}
-
-/// An answer, held: the bytes that are told first, and the parts behind them, so many.
-#[derive(Drop)]
-pub struct Parts {
-    pub(crate) told: Bytes,
-    pub(crate) rest: HeldParts,
-    pub(crate) count: usize,
-    ghost whole: { count ≡ length rest },
 }
 
 // The frame of a message, at the end.
@@ -265,8 +238,8 @@ fn hold_filter(index: &Index, height: u32) -> Result<Held, NoMemory>
     let (Some(block), Some(filter)) = (index.hash(height), index.shared_filter(height)) else {
         unreachable!()
     };
-    let filter = filter.share()?;
-    Ok(Held::Filter(HeldFilter { block, filter }))
+    let shared = filter.share()?;
+    Ok(Held::Filter(HeldFilter::new(block, shared)))
 }
 
 // A reply: a block or a filter as a share, and all others as bytes.

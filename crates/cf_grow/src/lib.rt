@@ -3,11 +3,13 @@
 #![tactic(auto)]
 
 mod ending;
+mod filter;
 mod growing;
 mod grown;
 mod held;
 mod joins;
 mod mark;
+mod parts;
 mod refused;
 mod sending;
 mod serve;
@@ -15,10 +17,12 @@ mod server;
 mod taking;
 
 pub use ending::Ending;
+pub use filter::HeldFilter;
 pub use growing::GrowingServer;
 pub use grown::{Grown, MOST_JOINED, Taken, take_locked};
-pub use held::{Held, HeldBlock, HeldFilter, HeldParts, Parts};
+pub use held::{Held, HeldBlock, HeldParts};
 pub use joins::{Joins, Nobody};
 pub use mark::{ServedMark, Shrunk, TakeFail, Tip};
+pub use parts::Parts;
 pub use serve::serve_grown;
 pub use server::Server;

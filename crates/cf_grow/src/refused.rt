@@ -1,9 +1,10 @@
 //! Blocks that were refused lately.
-ghost use Rattle.std.specs.Prelude.{◌≡◌, [], true};
+ghost use Rattle.std.specs.Prelude.{◌≡◌, [], List, true};
 ghost use Rattle.std.specs.List.{AllByRecursion};
-ghost use Rattle.cf_frame.specs.declared.frame.Frame.{Frame as FrameValue};
+ghost use Rattle.cf_block.specs.declared.tx.Block.{Block};
+ghost use Rattle.cf_grow.specs.Growing.{BringsNone};
 
-use cf_bytes::Listed;
+use cf_bytes::{Listed, NoMemory};
 use cf_frame::Frame;
 use std::alloc::Global;
 use std::marker::Model;
@@ -39,7 +40,8 @@ impl RefusedBlocks {
 
     // Whether this frame is one of them.
     pub(crate) fn has(&self, frame: &Frame) -> bool
-        ensures { result ≡ true → (Is : FrameValue → Type 0) → AllByRecursion Is self.now → Is frame.now }
+        ensures { result ≡ true → (blocks : List Block) → AllByRecursion (BringsNone blocks) self.now
+            → BringsNone blocks frame.now }
     {
         for kept in self.frames.as_slice() {
             if is_same(kept, frame) {
@@ -49,14 +51,26 @@ impl RefusedBlocks {
         false
     }
 
-    // Keeps one more. Once there are four, those are forgotten; where no memory is found it isn't kept.
+    // Puts one at the end. Where no memory is found it isn't kept.
+    fn put(&mut self, frame: Frame)
+        ensures { (blocks : List Block) → AllByRecursion (BringsNone blocks) self.old → BringsNone blocks frame
+            → AllByRecursion (BringsNone blocks) self.new }
+    {
+        match self.frames.push(frame) {
+            Ok(()) => {}
+            Err(NoMemory) => {}
+        }
+    }
+
+    // Keeps one more. Once there are four, those are forgotten.
     pub(crate) fn keep(&mut self, frame: Frame)
-        ensures { (Is : FrameValue → Type 0) → AllByRecursion Is self.old → Is frame → AllByRecursion Is self.new }
+        ensures { (blocks : List Block) → AllByRecursion (BringsNone blocks) self.old → BringsNone blocks frame
+            → AllByRecursion (BringsNone blocks) self.new }
     {
         if self.frames.len() >= MOST_KEPT {
-            self.frames.truncate(0);
+            self.forget();
         }
-        let _kept = self.frames.push(frame);
+        self.put(frame);
     }
 
     // Forgets them all.

@@ -3,7 +3,7 @@ ghost use Rattle.std.specs.Prelude.{◌≡◌};
 ghost use Rattle.cf_grow.specs.Held.{text_all};
 ghost use Rattle.cf_server.specs.{CountsWrites, Sends};
 
-use crate::held::Parts;
+use crate::parts::Parts;
 use cf_conn::Duplex;
 use cf_server::{ServeEnd, flush};
 use std::alloc::Global;

@@ -156,16 +156,16 @@ fn block_bytes(alloc: Global, index: &Index, height: u32) -> Result<Vec<u8>, NoM
 }
 
 /// The bytes of the frame of a basic filter, by its block's hash.
-pub fn filter_bytes(alloc: Global, block: &Hash32, filter: &[u8]) -> Result<Vec<u8>, NoMemory>
+pub fn filter_bytes(alloc: Global, block: Hash32, filter: &[u8]) -> Result<Vec<u8>, NoMemory>
     requires { length filter.now ≤ 3999900 }
-    ensures { IfOk result (λ bytes. bytes.items ≡ spelling (frame_of (CfilterMessage 0 block.now filter.now))) }
+    ensures { IfOk result (λ bytes. bytes.items ≡ spelling (frame_of (CfilterMessage 0 block filter.now))) }
 {
     let bytes = Bytes::from_vec(Vec::from_slice(alloc, filter)?);
     message_bytes(
         alloc,
         &Msg::Cfilter {
             filter: BASIC,
-            block: *block,
+            block,
             bytes,
         },
     )
@@ -180,7 +180,7 @@ fn cfilter_bytes(alloc: Global, index: &Index, height: u32) -> Result<Vec<u8>, N
     let (Some(block), Some(filter)) = (index.hash(height), index.filter(height)) else {
         unreachable!()
     };
-    filter_bytes(alloc, &block, filter)
+    filter_bytes(alloc, block, filter)
 }
 
 // The filter header at a height, or zeros above the chain.

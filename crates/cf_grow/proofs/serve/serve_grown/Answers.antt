@@ -5,7 +5,7 @@ use Rattle.cf_frame.specs.Reading.{front_of}
 use Rattle.cf_frame.proofs.Fields.{front_none}
 use Rattle.cf_grow.specs.declared.ending.Ending.TheVariants.{Served as ServedSo}
 use Rattle.cf_grow.specs.Growing.{begun_in, mark_of, told_by}
-use Rattle.cf_grow.specs.Standing.{Begun}
+use Rattle.cf_grow.specs.Standing.{Start}
 use Rattle.cf_grow.specs.Serving.{Midway}
 use Rattle.cf_grow.proofs.Serving.{midway_begins, midway_goes, served_ends, served_last, stops_closed, stops_unread}
 use Rattle.cf_server.specs.declared.answering.Serving.{Serving}
@@ -15,7 +15,7 @@ use Rattle.cf_grow.proofs.serve.serve_grown.Goals as goal
 
 pub loop-session-init : goal.loop-session-init
 loop-session-init g c =
-    let z : Begun = record { time = to_z w64 (of_z w64 c.args.moment); tip = c.args.first } in
+    let z : Start = record { time = to_z w64 (of_z w64 c.args.moment); tip = c.args.first } in
     let left = g.C.Source.left c.args.conn.now in
     let written = g.C.Sink.written c.args.conn.now in
     let mark = c.new-2.result in
@@ -29,7 +29,7 @@ loop-session-init g c =
 
 pub returns-in-Ok-eq0-clause-served : goal.returns-in-Ok-eq0-clause-served
 returns-in-Ok-eq0-clause-served g c =
-    let at : ℤ → Begun = λ z. record { time = z; tip = c.args.first } in
+    let at : ℤ → Start = λ z. record { time = z; tip = c.args.first } in
     let session = c.loop-session.session in
     let found = c.in-Ok-eq0 in
     let written = g.C.Sink.written c.loop-session.conn in
@@ -40,7 +40,7 @@ returns-in-Ok-eq0-clause-served g c =
 
 pub returns-in-Err-clause-served : goal.returns-in-Err-clause-served
 returns-in-Err-clause-served g c =
-    let at : ℤ → Begun = λ z. record { time = z; tip = c.args.first } in
+    let at : ℤ → Start = λ z. record { time = z; tip = c.args.first } in
     let session = c.loop-session.session in
     let written = g.C.Sink.written c.loop-session.conn in
     served_ends (g.C.Source.left c.args.conn.now) _ (at c.args.moment) c.args.nonce [] (g.C.Source.left c.loop-session.conn) (g.C.Source.left c.receive.new.self)
@@ -50,7 +50,7 @@ returns-in-Err-clause-served g c =
 
 pub returns-in-Err-take_piece-clause-served : goal.returns-in-Err-take_piece-clause-served
 returns-in-Err-take_piece-clause-served g c =
-    let at : ℤ → Begun = λ z. record { time = z; tip = c.args.first } in
+    let at : ℤ → Start = λ z. record { time = z; tip = c.args.first } in
     let session = c.loop-session.session in
     let ended = c.in-Err-take_piece in
     served_last (g.C.Source.left c.args.conn.now) _ (at c.args.moment) _ c.args.nonce _ (take c.in-Ok.n c.receive.new.into) (g.C.Source.left c.loop-session.conn) (g.C.Source.left c.receive.new.self) (g.C.Source.left c.take_piece.new.conn)
@@ -59,7 +59,7 @@ returns-in-Err-take_piece-clause-served g c =
 
 pub loop-session-preserved : goal.loop-session-preserved
 loop-session-preserved g c =
-    let at : ℤ → Begun = λ z. record { time = z; tip = c.args.first } in
+    let at : ℤ → Start = λ z. record { time = z; tip = c.args.first } in
     let session = c.loop-session.session in
     let next = c.take_piece.new.session in
     let took = c.in_default in

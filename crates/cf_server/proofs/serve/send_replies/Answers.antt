@@ -5,12 +5,18 @@ use Rattle.cf_msg.specs.Message.{frame_of}
 use Rattle.cf_server.specs.declared.outcome.ServeEnd.{ServeEnd}
 use Rattle.cf_server.specs.declared.reply.Reply.{Reply}
 use Rattle.cf_server.specs.declared.reply.Reply.TheVariants.{OwnVersion}
-use Rattle.cf_server.specs.Replies.{message_of, messages_of}
+use Rattle.cf_server.specs.Replies.{IsReplyOf, message_of, messages_of}
 use Rattle.cf_server.specs.Serving.{text_of}
 use Rattle.cf_server.specs.Taking.{Sends}
+use Rattle.cf_server.proofs.Lists.{all-at}
 use Rattle.cf_server.proofs.Steps.{by_err, Waiting, waiting_none, waiting_more, waiting_written, waiting_kept, waiting_sent, front_in_part}
 use Rattle.cf_server.proofs.serve.send_replies.Goals.{then-len-ge-TOGETHER+in_ok-flush, else-len-ge-TOGETHER}
 use Rattle.cf_server.proofs.serve.send_replies.Goals as goal
+
+pub put_reply-requires : goal.put_reply-requires
+put_reply-requires g c =
+    let Is = IsReplyOf c.args.index.now in
+    subst Is (sym (c.at.ensures OwnVersion)) (all-at Is c.args.replies.now c.loop-place.place OwnVersion c.requires tt)
 
 pub loop-place-init : goal.loop-place-init
 loop-place-init g c =
