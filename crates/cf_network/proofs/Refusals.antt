@@ -1,5 +1,5 @@
 -- Counts of refused starts.
-use Rattle.std.proofs.Common.{◌≡◌, ◌⊎◌, ◌+◌, ◌≤◌, ℕ, inl, inr, arith}
+use Rattle.std.proofs.Common.{◌≡◌, ◌⊎◌, ℕ, inl, inr, arith}
 use Rattle.cf_bytes.specs.Outside.{HasRisen}
 
 -- a count stands as it was, or has risen
