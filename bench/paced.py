@@ -3,12 +3,12 @@
 
 Peers are played here, over loopback; one that is honest serves the chain of data/blocks.dat. The cases run one after another, each with a line at its end:
 
-    names     seven names that no server answers for stand behind an honest peer, which hangs up after a minute without a word; two name servers are dead
+    names     seven names stand behind an honest peer, which hangs up after a minute without a word; both name servers are dead
     second    the first name server is dead, and the second one knows the honest peer
-    pings     a peer pings without end, and reads the answers, for SECONDS beside an honest one that takes as long to answer
-    bytes     a peer sends byte by byte for SECONDS beside an honest one that takes as long to answer, and the run may take TURNS deliveries
+    pings     a peer pings without end, and reads the answers, beside an honest one that takes SECONDS for its headers
+    bytes     a peer sends byte by byte beside an honest one that takes SECONDS for its headers, and the run may take TURNS deliveries
 
-The first two are played in a network of their own (`unshare`). The status is 1 where a bound is broken, or a `sync` tells another text than that of a scan.
+A peer that sends without end answers nothing that it is asked, and is closed for it after a minute. The first two are played in a network of their own (`unshare`). The status is 1 where a bound is broken, or a `sync` tells another text than that of a scan.
 """
 import os
 import re
@@ -24,10 +24,10 @@ from conversation import MAGIC, frame, version
 from network import CHAIN, ROOT, TEXT, WATCHED, Peer, Run, comes, listener, name_of
 
 SECONDS = 20
-# The most deliveries of the run beside single bytes, of which a thousand a second at most may come.
-TURNS = 30_000
-# The most seconds until an honest peer is greeted, where no name is looked up.
-GREETED = 16
+# The most deliveries of the run beside single bytes, of which a thousand a second at most may come for a minute.
+TURNS = 80_000
+# The most seconds until an honest peer is asked for headers, where no name is looked up.
+ASKED = 18
 # The most pongs in a second, the most kilobytes, and the most seconds of a processor beside pings.
 PONGS, KILOBYTES, PROCESSOR = 300, 60_000, 5
 NAMES = [f"peer{n}.example:18444" for n in range(2, 9)]
@@ -59,10 +59,10 @@ class Servers(threading.Thread):
 
 
 class Timed(Peer):
-    """A peer that tells when it is greeted, and hangs up where it isn't for a minute."""
+    """A peer that tells when it is first asked for headers, and hangs up where nothing comes for a minute."""
 
     def __init__(self, before=lambda command: True):
-        self.greeted, self.start_time = None, time.monotonic()
+        self.asked, self.begun = None, time.monotonic()
         super().__init__(before)
 
     def serve(self, connection):
@@ -70,8 +70,8 @@ class Timed(Peer):
         super().serve(connection)
 
     def answer(self, command, payload):
-        if command == "version":
-            self.greeted = time.monotonic() - self.start_time
+        if command == "getheaders" and self.asked is None:
+            self.asked = time.monotonic() - self.begun
         return super().answer(command, payload)
 
 
@@ -120,7 +120,7 @@ class Costs(threading.Thread):
 
     def __init__(self, run):
         super().__init__(daemon=True)
-        self.run_of, self.kilobytes, self.processor = run, 0, 0.0
+        self.run_of, self.kilobytes, self.processor, self.seconds = run, 0, 0.0, 0.0
         self.start()
 
     def run(self):
@@ -138,27 +138,33 @@ class Costs(threading.Thread):
 def beside(program, watch, flood, *options):
     """A `sync` beside such a peer: its costs, and what is otherwise than it should be."""
     run = Run(program, "sync", *options, watch, flood.name, Timed(held(SECONDS)).name)
-    costs = Costs(run)
+    costs, start = Costs(run), time.monotonic()
     try:
-        return costs, run.faults(0, TEXT, "cf: peer 2: connected to the end")
+        found = run.faults(0, TEXT, "cf: peer 2: connected to the end")
+        costs.seconds = time.monotonic() - start
+        return costs, found
     finally:
         run.end()
+
+
+def told_of(costs):
+    return f"{costs.kilobytes} KB, {costs.processor:.1f} s of a processor in {costs.seconds:.0f} s"
 
 
 def pings(program, watch):
     flood = Flood(frame("ping", bytes(range(8))) * 1000, 32_000)
     costs, found = beside(program, watch, flood)
-    pongs = flood.read / 32 / SECONDS
+    pongs = flood.read / 32 / costs.seconds
     if pongs > PONGS or costs.kilobytes > KILOBYTES or costs.processor > PROCESSOR:
         found.append("it is more than that")
-    return f"{pongs:.0f} pongs a second, {costs.kilobytes} KB, {costs.processor:.1f} s of a processor", found
+    return f"{pongs:.0f} pongs a second, {told_of(costs)}", found
 
 
 def single(program, watch):
     empty = b"\0" * 1_000_000
     flood = Flood(frame("nothing", empty), 1)
     costs, found = beside(program, watch, flood, "--turns", str(TURNS))
-    return f"{flood.sent} bytes, {costs.kilobytes} KB, {costs.processor:.1f} s of a processor", found
+    return f"{flood.sent} bytes, {told_of(costs)}", found
 
 
 def names(program, watch, knows):
@@ -168,9 +174,9 @@ def names(program, watch, knows):
     run = Run(program, "sync", watch, *words)
     try:
         found = run.faults(0, TEXT, "cf: peer 1: connected to the end")
-        if peer.greeted is None or peer.greeted > GREETED:
-            found.append(f"it was to be greeted within {GREETED} seconds")
-        return f"greeted after {peer.greeted or 0:.1f} seconds", found
+        if peer.asked is None or peer.asked > ASKED:
+            found.append(f"it was to be asked within {ASKED} seconds")
+        return f"asked for headers after {peer.asked or 0:.1f} seconds", found
     finally:
         run.end()
 

@@ -41,6 +41,7 @@ impl Calls {
 }
 
 /// Begins a call of each of these names.
+#[tactic(auto, using(crate::proofs::Refusals::both))]
 pub(crate) fn calls_of<K: Spawner>(
     rt: &HostRuntime,
     spawner: &mut K,
