@@ -189,18 +189,10 @@ fn follow<R: Wait + Threads + Sync + Copy + Drop + Send + 'static, K: Spawner>(
     spawner: &mut K,
 ) -> Status {
     match read_call(teller.runtime().alloc(), words) {
-        Ok(
-            Call {
-                words,
-                redial: Some(redial),
-            },
-        ) => follow_again(teller, handle, &words, redial, spawner),
-        Ok(
-            Call {
-                words,
-                redial: None,
-            },
-        ) => run_once(teller, handle, &words, spawner),
+        Ok(Call { words, redial }) => match redial {
+            Some(redial) => follow_again(teller, handle, &words, redial, spawner),
+            None => run_once(teller, handle, &words, spawner),
+        },
         Err(Refused::No(fault)) => {
             let _told = eprintln!(teller; "error: {fault}");
             Status::Usage

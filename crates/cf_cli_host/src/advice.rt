@@ -39,10 +39,16 @@ fn tell_port(teller: &Teller, name: &str, end: &PeerEnd) -> io::Result<()> {
     }
 }
 
-// The same of each peer that these names name.
-fn tell_ports(teller: &Teller, names: &[String], ends: &[PeerEnd]) -> io::Result<()> {
-    for (name, end) in names.iter().zip(ends) {
-        tell_port(teller, name.as_str(), end)?;
+// The same of each peer that a command names.
+fn tell_ports(teller: &Teller, command: &Command, ends: &[PeerEnd]) -> io::Result<()> {
+    let (Command::Sync { peers, .. } | Command::Follow { peers, .. }) = command else {
+        return Ok(());
+    };
+    let mut ends = ends.iter();
+    for name in peers.as_slice() {
+        if let Some(end) = ends.next() {
+            tell_port(teller, name.as_str(), end)?;
+        }
     }
     Ok(())
 }
@@ -61,9 +67,7 @@ pub fn tell_advice<W>(
         tell_one(teller, p, end, heard.front(PeerNo(p)))?;
     }
     match read_words(teller.runtime().alloc(), words) {
-        Ok(Command::Sync { peers, .. }) | Ok(Command::Follow { peers, .. }) => {
-            tell_ports(teller, peers.as_slice(), ends)
-        }
-        _ => Ok(()),
+        Ok(command) => tell_ports(teller, &command, ends),
+        Err(_) => Ok(()),
     }
 }

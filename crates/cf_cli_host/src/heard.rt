@@ -20,17 +20,13 @@ pub enum Front {
 
 // How bytes begin, of which there are some.
 fn front_of(bytes: &[u8]) -> Front {
+    let n = bytes.len().min(FRONT);
+    if MAGIC.starts_with(&bytes[..n]) {
+        return Front::Regtest;
+    }
     let mut front = [0u8; FRONT];
-    let mut meets = true;
-    for ((to, magic), byte) in front.iter_mut().zip(MAGIC).zip(bytes) {
-        *to = *byte;
-        meets = meets && *byte == magic;
-    }
-    if meets {
-        Front::Regtest
-    } else {
-        Front::Other(front)
-    }
+    front[..n].copy_from_slice(&bytes[..n]);
+    Front::Other(front)
 }
 
 /// Wires of which it is noted how many deliveries were taken, and how what each peer says begins.

@@ -140,22 +140,31 @@ fn seconds_of(parted: &Parted) -> Result<Option<u32>, RedialFault> {
     }
 }
 
-// How a call with these words goes on, which has no more to say of it than the seconds.
+// How a command goes on that is to wait so many seconds.
+fn redial_by(command: &Command, seconds: u32) -> Result<Option<Redial>, RedialFault> {
+    let Command::Follow { turns, record, .. } = command else {
+        return Ok(None);
+    };
+    if record.is_some() {
+        return Err(RedialFault::Record);
+    }
+    Ok(Some(Redial {
+        seconds,
+        turns: *turns,
+    }))
+}
+
+// How a call with these words goes on, which is to wait so many seconds. Words that ask for nothing are told of by
+// whoever runs them.
 fn redial_of(
     alloc: Global,
     words: &[String],
     seconds: u32,
 ) -> Result<Option<Redial>, Refused<RedialFault>> {
     match read_words(alloc, words) {
-        Ok(
-            Command::Follow {
-                record: Some(_),
-                ..
-            },
-        ) => Err(Refused::No(RedialFault::Record)),
-        Ok(Command::Follow { turns, .. }) => Ok(Some(Redial { seconds, turns })),
+        Ok(command) => redial_by(&command, seconds).map_err(Refused::No),
         Err(Refused::NoMemory) => Err(Refused::NoMemory),
-        _ => Ok(None),
+        Err(Refused::No(_)) => Ok(None),
     }
 }
 
