@@ -52,7 +52,7 @@ TEXTS = {
         "of BLOCKS blocks: 1 to {MOST_PLAYED}.",
         "It would stand above height {HEIGHT_LIMIT}.",
         "1 to {MOST_SECONDS} seconds have passed.",
-        "The file has at most {MOST_BLOCKS} bytes. The first record",
+        "The file has at most {MOST_BLOCKS} bytes. The first refused record",
         "The file has at most {MOST_WATCH} bytes",
         "the last may lack it. The file has at most {MOST_SESSION} bytes.",
         "the second may lack it. The file has at most {MOST_PROOF} bytes.",
