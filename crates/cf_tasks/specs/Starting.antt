@@ -1,4 +1,4 @@
--- machine: what is done with a spawner.
+-- statement: what is done with a spawner.
 use Rattle.std.specs.Prelude.{◌≡◌, ◌⊎◌, ℕ, zero, suc, Bool, true, false}
 
 -- a task was put to it, and at most a failed start counted
