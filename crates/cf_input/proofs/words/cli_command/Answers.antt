@@ -10,7 +10,7 @@ returns-clause-app c =
     let two = c.add-command-2.ensures.app (with_sub client_app scan_app) filter_app one c.two_words-2.ensures.app in
     let three = c.add-command-3.ensures.app (with_sub (with_sub client_app scan_app) filter_app) address_app two c.one_word.ensures.app in
     let four = c.add-command-4.ensures.app (with_sub (with_sub (with_sub client_app scan_app) filter_app) address_app) prove_app three c.two_words-3.ensures.app in
-    let five = c.add-command-5.ensures.app (with_sub (with_sub (with_sub (with_sub client_app scan_app) filter_app) address_app) prove_app) check_app four c.one_word-2.ensures.app in
+    let five = c.add-command-5.ensures.app (with_sub (with_sub (with_sub (with_sub client_app scan_app) filter_app) address_app) prove_app) check_app four c.check_command.ensures.app in
     let six = c.add-command-6.ensures.app (with_sub (with_sub (with_sub (with_sub (with_sub client_app scan_app) filter_app) address_app) prove_app) check_app) serve_app five c.serve_command.ensures.app in
     let seven = c.add-command-7.ensures.app (with_sub (with_sub (with_sub (with_sub (with_sub (with_sub client_app scan_app) filter_app) address_app) prove_app) check_app) serve_app) make_app six c.make_command.ensures.app in
     IfOk-weaker c.add.result _ _ (λ k h. h ∙ sym cli_is) (c.add.ensures.app (with_sub (with_sub (with_sub (with_sub (with_sub (with_sub (with_sub client_app scan_app) filter_app) address_app) prove_app) check_app) serve_app) make_app) demo_app seven c.two_words-4.ensures.app)
