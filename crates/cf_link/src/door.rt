@@ -386,10 +386,10 @@ impl Door {
         self.seats.iter().filter(|seat| seat.pass.is_cut()).count()
     }
 
-    // The seat that is given up for a connection from this address, if one is: without a `version`, else of an address
-    // with more seats one that leaves a message or an answer where it is, else an idle one of such an address, else one
-    // of an address that has more than its share. Where the address itself has its share, that is one of its own without
-    // a `version`.
+    // The seat that is given up for a connection from this address, if one is: without a `version`, else one that leaves
+    // a message or an answer where it is, else an idle one, else one of an address that has more than its share. The
+    // second and the third are of an address with two seats more, or of any where this one has none. Where it has its
+    // share, only one of its own without a `version` is given up.
     fn to_give_up(&self, address: IpAddr, now: u64) -> Option<usize> {
         let share = share_of(self.at_once);
         let own = seats_of(&self.seats, address);
@@ -398,7 +398,7 @@ impl Door {
             return silent;
         }
         let crowds = crowds_of(self.alloc, &self.seats);
-        let fewer = own.saturating_add(1);
+        let fewer = if own == 0 { 0 } else { own.saturating_add(1) };
         let within = idle_one(&self.seats, &crowds, fewer, true, now);
         if within.is_some() {
             return within;
