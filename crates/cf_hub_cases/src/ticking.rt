@@ -75,7 +75,7 @@ pub(crate) fn answer<R: Host>(rt: HostRuntime, handle: R, row: &str) -> Option<S
     let alloc = rt.alloc();
     let idle = seconds_in(row)?;
     let port = count(alloc)?;
-    let mut silent = ToldLink::new(rt, same(&port)?);
+    let mut silent = ToldLink::new(rt, same(&port)?).ok()?;
     silent.listen("127.0.0.1:0").ok()?;
     let number = listening(&rt, &port)?;
     let name = format!(in alloc; "127.0.0.1:{number}").ok()?;
