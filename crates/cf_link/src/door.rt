@@ -131,21 +131,6 @@ fn silent_one(seats: &[Seat], address: IpAddr, has_share: bool, now: u64) -> Opt
     found
 }
 
-// The seat that is idle for longest: of those within a message or an answer, or of all.
-fn idle_one(seats: &[Seat], within: bool, now: u64) -> Option<usize> {
-    let mut found = None;
-    let mut oldest = u64::MAX;
-    for (i, seat) in seats.iter().enumerate() {
-        if let Some(since) = idle_since(seat, within, now) {
-            if since < oldest {
-                oldest = since;
-                found = Some(i);
-            }
-        }
-    }
-    found
-}
-
 // How many have an address.
 #[derive(Clone, Copy)]
 struct Crowd {
@@ -178,6 +163,50 @@ impl Crowds {
         let _counted = self.rows.push(Crowd { address, count: 1 });
         1
     }
+
+    // How many were counted of this address.
+    fn count(&self, address: IpAddr) -> usize {
+        for row in &self.rows {
+            if row.address == address {
+                return row.count;
+            }
+        }
+        0
+    }
+}
+
+// How many seats each address has.
+fn crowds_of(alloc: Global, seats: &[Seat]) -> Crowds {
+    let mut crowds = Crowds::new(alloc);
+    for seat in seats {
+        let _count = crowds.add(seat.address);
+    }
+    crowds
+}
+
+// The seat that is idle for longest: of those within a message or an answer, or of all. Its address has more seats than
+// so many.
+fn idle_one(
+    seats: &[Seat],
+    crowds: &Crowds,
+    fewer: usize,
+    within: bool,
+    now: u64,
+) -> Option<usize> {
+    let mut found = None;
+    let mut oldest = u64::MAX;
+    for (i, seat) in seats.iter().enumerate() {
+        if crowds.count(seat.address) <= fewer {
+            continue;
+        }
+        if let Some(since) = idle_since(seat, within, now) {
+            if since < oldest {
+                oldest = since;
+                found = Some(i);
+            }
+        }
+    }
+    found
 }
 
 // The last one that waits from the address that has most of them, if it has more than one.
@@ -357,21 +386,24 @@ impl Door {
         self.seats.iter().filter(|seat| seat.pass.is_cut()).count()
     }
 
-    // The seat that is given up for a connection from this address, if one is: without a `version`, else one that
-    // leaves a message or an answer where it is, else an idle one, else one of an address that has more than its share.
-    // Where the address itself has its share, that is one of its own without a `version`.
+    // The seat that is given up for a connection from this address, if one is: without a `version`, else one that leaves
+    // a message or an answer where it is, else an idle one, else one of an address that has more than its share. The
+    // second and the third are of an address with two seats more, or of any where this one has none. Where it has its
+    // share, only one of its own without a `version` is given up.
     fn to_give_up(&self, address: IpAddr, now: u64) -> Option<usize> {
         let share = share_of(self.at_once);
-        let has_share = seats_of(&self.seats, address) >= share;
-        let silent = silent_one(&self.seats, address, has_share, now);
-        if silent.is_some() || has_share {
+        let own = seats_of(&self.seats, address);
+        let silent = silent_one(&self.seats, address, own >= share, now);
+        if silent.is_some() || own >= share {
             return silent;
         }
-        let within = idle_one(&self.seats, true, now);
+        let crowds = crowds_of(self.alloc, &self.seats);
+        let fewer = if own == 0 { 0 } else { own.saturating_add(1) };
+        let within = idle_one(&self.seats, &crowds, fewer, true, now);
         if within.is_some() {
             return within;
         }
-        let idle = idle_one(&self.seats, false, now);
+        let idle = idle_one(&self.seats, &crowds, fewer, false, now);
         if idle.is_some() {
             return idle;
         }
