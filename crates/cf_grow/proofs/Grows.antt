@@ -7,7 +7,6 @@ use Rattle.cf_frame.specs.declared.frame.Frame.{Frame}
 use Rattle.cf_walk.specs.declared.cause.RecordCause.{RecordCause}
 use Rattle.cf_walk.specs.Files.{cause_on}
 use Rattle.cf_msg.specs.declared.msg.Msg.TheVariants.{Block as BlockMessage}
-use Rattle.cf_msg.specs.declared.msg.Malformed.{Malformed}
 use Rattle.cf_msg.specs.Reading.{message_of}
 use Rattle.cf_grow.specs.Growing.{BringsNone, fits_on}
 
@@ -25,7 +24,7 @@ stays_by blocks new b e bad is = is
 pub brings_none : (blocks : List Block) (b : Block) (f : Frame) (e : RecordCause) → message_of f ≡ Ok (BlockMessage b) → cause_on blocks b ≡ Some e
     → BringsNone blocks f
 brings_none blocks b f e brings bad other is =
-    let both : Ok {E = Malformed} (BlockMessage other) ≡ Ok (BlockMessage b) = sym is ∙ brings in
+    let both = sym is ∙ brings in
     let same : other ≡ b = cc in
     ap is_none (ap (cause_on blocks) same ∙ bad)
 

@@ -1,4 +1,4 @@
-use Rattle.std.proofs.Common.{ℤ, [], take, refl, ◌∙◌, ap, arith, to_z, of_z, w64}
+use Rattle.std.proofs.Common.{◌≡◌, ℤ, [], take, refl, ◌∙◌, ap, arith, to_z, of_z, w64}
 use Rattle.std.proofs.lemmas.Int.{to_z-of_z}
 use Rattle.std.proofs.lemmas.List.{length-take-le}
 use Rattle.cf_frame.specs.Reading.{front_of}

@@ -7,9 +7,9 @@ use Rattle.cf_grow.proofs.serve.serve_grown.Given as goal
 
 abbrev pub invariant-loop-session : goal.invariant-loop-session
 invariant-loop-session g l = record {
-  midway : IfSome (g.C.Source.left l.fn.conn) (λ bytes. Midway (record { time = l.fn.moment; tip = l.first }) l.nonce bytes (g.C.Source.left l.conn) l.session.left l.session.framer
+  midway : IfSome (g.C.Source.left l.fn.conn) (λ bytes. Midway (record { time = l.fn.moment; tip = l.fn.first }) l.nonce bytes (g.C.Source.left l.conn) l.session.left l.session.framer
       (mark_of l.session.mark) (g.C.Sink.written l.fn.conn) (g.C.Sink.written l.conn));
-  time : begun_in l.session.mark ≡ record { time = l.fn.moment; tip = l.first };
+  time : begun_in l.session.mark ≡ record { time = l.fn.moment; tip = l.fn.first };
   number : l.session.mark.served.nonce ≡ l.nonce;
   waiting : front_of l.session.framer ≡ Ok None;
   room : 1 ≤ l.session.left;
