@@ -11,9 +11,3 @@ both a b c p q = elim p [
   | inl x ↦ elim q [ inl y ↦ inl (omega (arith, x, y)) | inr y ↦ inr (omega (arith, x, y)) ]
   | inr x ↦ elim q [ inl y ↦ inr (omega (arith, x, y)) | inr y ↦ inr (omega (arith, x, y)) ]
 ]
-
-pub or_risen : {A : Type 0} (a b c : ℕ) → KeptOrRisen a b → A ⊎ HasRisen b c → A ⊎ HasRisen a c
-or_risen a b c p q = elim q [
-  | inl y ↦ inl y
-  | inr y ↦ inr (elim p [ inl x ↦ omega (arith, x, y) | inr x ↦ omega (arith, x, y) ])
-]
