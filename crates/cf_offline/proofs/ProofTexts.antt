@@ -38,7 +38,8 @@ use Rattle.cf_input.specs.declared.proof_file.Proven.{Proven}
 use Rattle.cf_input.proofs.LineSteps.{before_true, before_false, after_true, after_false}
 use Rattle.cf_answers.specs.declared.status.Status.{Status}
 use Rattle.cf_answers.specs.declared.status.Status.TheVariants.{Done, NoMemory, Usage, BadFile, FileFault, OutFault, NoPeers, Tired, Ended, LinkFault, NoNonce, NoHeight, NotThere, NotInChain, NotAddress}
-use Rattle.cf_offline.specs.Proving.{proof_text, IsTextAt, IsProofText, in_text, Checks, Takes, TakesWhatIsProved}
+use Rattle.cf_offline.specs.Proving.{proof_text, IsTextAt, IsProofText, in_text, Checks, IsOfCheck, Takes, TakesAlone, TakesWhatIsProved}
+use Rattle.cf_offline.specs.Reading.{IsOfScan}
 use Rattle.cf_answers.specs.Writing.{named_line, IsWritten}
 use Rattle.cf_loading.specs.Verdicts.{IsJudged, Good, proof_verdict}
 
@@ -237,6 +238,45 @@ pub takes : (status : Status) (before after : Option (List ℕ)) (files : Option
     → IfSome files (λ m. IfSome (finite.get m file) (λ b. Checks status (proof_file_of false b) before after)) → IfSome files (λ m. IfSome (finite.get m file) (λ b. TakesWhatIsProved status b before after))
 takes status before after None file judged checks = tt
 takes status before after (Some m) file judged checks = takes_under status before after (finite.get m file) judged checks
+
+-- where no file of blocks is named, and the transaction has no witnesses
+pub takes_alone : (witness : Bool) (status : Status) (before after : Option (List ℕ)) (files : Option Named) (file : List ℕ)
+    → IfSome files (λ m. IsJudged (proof_verdict witness (finite.get m file)) status) → IfSome files (λ m. IfSome (finite.get m file) (λ b. Checks status (proof_file_of witness b) before after))
+    → IfSome files (λ m. IfSome (finite.get m file) (λ b. TakesAlone status witness b None before after))
+takes_alone false status before after files file judged checks = takes status before after files file judged checks
+takes_alone true status before after None file judged checks = tt
+takes_alone true status before after (Some m) file judged checks = nothing (finite.get m file) where
+  nothing : (o : Option (List ℕ)) → IfSome o (λ b. TakesAlone status true b None before after)
+  nothing None = tt
+  nothing (Some b) = tt
+
+-- with a file of blocks nothing more is asked
+pub takes_in : (witness : Bool) (status : Status) (chain : List ℕ) (before after : Option (List ℕ)) (files : Option Named) (file : List ℕ)
+    → IfSome files (λ m. IfSome (finite.get m file) (λ b. TakesAlone status witness b (Some chain) before after))
+takes_in witness status chain before after None file = tt
+takes_in witness status chain before after (Some m) file = nothing witness (finite.get m file) where
+  nothing : (w : Bool) (o : Option (List ℕ)) → IfSome o (λ b. TakesAlone status w b (Some chain) before after)
+  nothing w None = tt
+  nothing false (Some b) = tt
+  nothing true (Some b) = tt
+
+-- the answers to the file of a proof are answers of `check`
+pub scanned_checked : (status : Status) (before after : Option (List ℕ)) → IsOfScan status before after → IsOfCheck status before after
+scanned_checked Done before after is = is
+scanned_checked NoMemory before after is = is
+scanned_checked Usage before after is = is
+scanned_checked (BadFile which place cause) before after is = is
+scanned_checked FileFault before after is = is
+scanned_checked OutFault before after is = is
+scanned_checked (NoPeers ends) before after is = is
+scanned_checked Tired before after is = is
+scanned_checked Ended before after is = is
+scanned_checked LinkFault before after is = is
+scanned_checked (NoNonce height) before after is = is
+scanned_checked (NoHeight tip) before after is = is
+scanned_checked (NotThere txid) before after is = is
+scanned_checked (NotInChain block) before after is = absurd is
+scanned_checked (NotAddress cause) before after is = is
 
 -- ---- the block at a height
 
