@@ -24,6 +24,7 @@ TEXTS = {
         "from 1 to {MOST_PEERS} peers, whose longest chain",
         "with 1 to {MOST_PEERS} peers, each HOST:PORT",
         "connections (else {MOST_CONNECTIONS}) at ADDRESS",
+        "N bytes of blocks at most, from 1 to {MOST_GROWTH} (else {USUAL_GROWTH})",
         "from 1 to {MOST_AT_ONCE} (else {USUAL_AT_ONCE})",
         "from 1 to {MOST_BUDGET} (else {USUAL_BUDGET})",
         "1 to {MOST_MADE}; SEED, 0 to {MOST_SEED}, says",

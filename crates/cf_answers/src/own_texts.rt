@@ -24,8 +24,8 @@ usage: cf scan FILE WATCH
        cf sync [--turns N] [--workers N] [--record FILE] WATCH PEER..
        cf follow [--turns N] [--workers N] [--record FILE] [--redial SECONDS]
                  WATCH PEER..
-       cf serve [--grow] [--endless | --connections N] [--at-once N] [--budget N]
-                FILE ADDRESS
+       cf serve [--grow [--grow-bytes N]] [--endless | --connections N]
+                [--at-once N] [--budget N] FILE ADDRESS
        cf address TEXT
        cf prove FILE TXID
        cf check [--witness] FILE [BLOCKS]
@@ -59,6 +59,9 @@ usage: cf scan FILE WATCH
              peer was closed, as `x P CAUSE`
   --grow     takes the blocks that the connections bring, and tells of them;
              FILE stays as it is
+  --grow-bytes
+             with --grow: takes N bytes of blocks at most, from 1 to 4294967295
+             (else 1073741824)
   --endless  serves without an end by the number of connections
   --at-once  serves N connections at a time, from 1 to 1000000 (else 125)
   --budget   holds N megabytes of large messages, from 1 to 1000000 (else 256)

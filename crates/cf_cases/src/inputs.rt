@@ -103,7 +103,7 @@ fn told(alloc: Global, command: &Command) -> Option<String> {
             address,
         } => {
             format!(in alloc;
-                "serve {grow} {connections} {at_once} {budget} {} {}",
+                "serve {grow:?} {connections} {at_once} {budget} {} {}",
                 file.as_str(),
                 address.as_str()
             )

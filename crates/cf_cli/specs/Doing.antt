@@ -83,6 +83,6 @@ Does (Address text) status moment nonce before after = IsAddressed status text b
 Does (Prove file txid) status moment nonce before after = IsProved status before.files file txid before.written after.written
 Does (Check witness file chain) status moment nonce before after = IsChecked status witness before.files file chain before.written after.written
 Does (Serve grow count at_once budget file address) status moment nonce before after =
-    IsServing grow status moment nonce before.files file address count before.link after.link × (after.written ≡ before.written)
+    IsServing (is_some grow) status moment nonce before.files file address count before.link after.link × (after.written ≡ before.written)
 Does (Make witness seed blocks file) status moment nonce before after = IsMaking status witness seed blocks file before.files after.files × (after.written ≡ before.written)
 Does (Demo seed blocks) status moment nonce before after = IsDemoed status seed blocks before.written after.written after.played

@@ -1,5 +1,5 @@
 //! The server of a file of blocks.
-ghost use Rattle.std.specs.Prelude.{◌≡◌, ◌≢◌, ◌+◌, true, false, IfSome, OnOk};
+ghost use Rattle.std.specs.Prelude.{◌≡◌, ◌≢◌, ◌+◌, true, false, is_some, IfSome, OnOk};
 ghost use Rattle.std.specs.FinMap as finite;
 ghost use Rattle.cf_bytes.specs.{HasRisen};
 ghost use Rattle.cf_conn.specs.{IsReadByParts};
@@ -11,7 +11,7 @@ ghost use Rattle.cf_answers.specs.{was_refused};
 use cf_answers::Status;
 use cf_bytes::{Failed, Files, Hash32, NoMemory, Refused};
 use cf_conn::Duplex;
-use cf_grow::{GrowingServer, Joins, MOST_JOINED, Server};
+use cf_grow::{GrowingServer, Joins, Server};
 use cf_index::{CheckedChain, Index};
 use cf_link::{Link, ServeFail, Service, serve as serve_all};
 use cf_loading::load_chain;
@@ -106,6 +106,7 @@ fn serve_growing<
     alloc: Global,
     index: Index,
     joins: J,
+    room: u64,
     tip_hash: &Hash32,
     address: &str,
     connections: u64,
@@ -124,7 +125,7 @@ where
     ensures fine { result ≢ Status.LinkFault → L.faults link.new ≡ L.faults link.old }
 {
     let tip = index.tip();
-    match GrowingServer::new(rt, alloc, index, joins, MOST_JOINED, moment, nonce) {
+    match GrowingServer::new(rt, alloc, index, joins, room, moment, nonce) {
         Ok(server) => status_of(serve_at(
             alloc,
             &server,
@@ -149,7 +150,7 @@ fn serve_chain<
     rt: R,
     alloc: Global,
     chain: CheckedChain,
-    grow: bool,
+    grow: Option<u32>,
     joins: J,
     address: &str,
     connections: u64,
@@ -161,7 +162,7 @@ fn serve_chain<
 where
     L::Conn: Send + 'static,
     <L::Conn as Duplex>::End: Drop + Send + 'static,
-    ensures serves { ServesChain result (served_by grow chain moment nonce) address.now connections
+    ensures serves { ServesChain result (served_by (is_some grow) chain moment nonce) address.now connections
         (link_now L.addresses L.accepted L.owed L.conns L.given link.old)
         (link_now L.addresses L.accepted L.owed L.conns L.given link.new) }
     ensures fault { result ≡ Status.LinkFault → HasRisen (L.faults link.old) (L.faults link.new) }
@@ -171,12 +172,13 @@ where
     let Ok(index) = Index::of(&rt, alloc, chain) else {
         return Status::NoMemory;
     };
-    if grow {
-        return serve_growing(
+    match grow {
+        Some(most) => serve_growing(
             rt,
             alloc,
             index,
             joins,
+            u64::from(most),
             &tip_hash,
             address,
             connections,
@@ -184,23 +186,23 @@ where
             nonce,
             link,
             spawner,
-        );
+        ),
+        None => serve_still(
+            alloc,
+            index,
+            &tip_hash,
+            address,
+            connections,
+            moment,
+            nonce,
+            link,
+            spawner,
+        ),
     }
-    serve_still(
-        alloc,
-        index,
-        &tip_hash,
-        address,
-        connections,
-        moment,
-        nonce,
-        link,
-        spawner,
-    )
 }
 
 /// Serves the chain of a file of blocks to so many connections, once the file is read and judged: the chain that was
-/// loaded, or one that grows from it. The link listens at the address then.
+/// loaded, or one that grows from it, by blocks of at most so many bytes in all. The link listens at the address then.
 pub fn serve<
     R: Wait + Threads + Sync + Copy + Drop + Send + 'static,
     J: Joins + Copy + Drop + Send + 'static,
@@ -211,7 +213,7 @@ pub fn serve<
     rt: R,
     alloc: Global,
     files: &mut F,
-    grow: bool,
+    grow: Option<u32>,
     joins: J,
     file: &str,
     address: &str,
@@ -225,7 +227,7 @@ where
     L::Conn: Send + 'static,
     <L::Conn as Duplex>::End: Drop + Send + 'static,
     ensures judged { IfSome (F.files files.old) (λ m. IsJudged (blocks_verdict (finite.get m file.now)) result) }
-    ensures serving { IsServing grow result moment nonce (F.files files.old) file.now address.now connections
+    ensures serving { IsServing (is_some grow) result moment nonce (F.files files.old) file.now address.now connections
         (link_now L.addresses L.accepted L.owed L.conns L.given link.old)
         (link_now L.addresses L.accepted L.owed L.conns L.given link.new) }
     ensures unused { was_refused result ≡ true → link.new ≡ link.old }

@@ -83,10 +83,11 @@ abbrev pub check_app : App
 check_app = with_rule (with_rule (with_rule (new_app (codes "check")) (flag_rule (codes "witness"))) (needed (new_rule (codes "file")))) (new_rule (codes "blocks"))
 
 -- `serve` with its options alone: serve [--grow] [--endless] [--connections N] [--at-once N] [--budget N]
+-- [--grow-bytes N]
 abbrev pub serve_options_app : App
 serve_options_app =
-    with_rule (with_rule (with_rule (with_rule (with_rule (new_app (codes "serve")) (flag_rule (codes "grow"))) (flag_rule (codes "endless")))
-    (option_rule (codes "connections"))) (option_rule (codes "at-once"))) (option_rule (codes "budget"))
+    with_rule (with_rule (with_rule (with_rule (with_rule (with_rule (new_app (codes "serve")) (flag_rule (codes "grow"))) (flag_rule (codes "endless")))
+    (option_rule (codes "connections"))) (option_rule (codes "at-once"))) (option_rule (codes "budget"))) (option_rule (codes "grow-bytes"))
 
 -- the same, and then FILE ADDRESS
 abbrev pub serve_app : App
@@ -196,6 +197,21 @@ abbrev pub budget_of : Option Text → Option ℕ
 budget_of None = Some 256
 budget_of (Some text) = number_within most_budget text
 
+-- at most this many bytes of blocks may join a chain that grows
+abbrev pub most_growth : ℕ
+most_growth = 4294967295
+
+-- a number from 1 to the most, and 1,073,741,824 where none is given
+abbrev pub bytes_of_growth : Option Text → Option ℕ
+bytes_of_growth None = Some 1073741824
+bytes_of_growth (Some text) = number_within most_growth text
+
+-- how a served chain grows: not at all without `--grow`, and no number may be given then; else by so many bytes of blocks
+abbrev pub growth_of : Bool → Option Text → Option (Option ℕ)
+growth_of false None = Some None
+growth_of false (Some text) = None
+growth_of true text = option_map (λ most. Some most) (bytes_of_growth text)
+
 -- the greatest height that may be asked for
 abbrev pub most_height : ℕ
 most_height = 4294967295
@@ -299,16 +315,18 @@ abbrev pub check_of : Met → Option Command
 check_of met = option_and_then (λ file. Some (Check (is_set (codes "witness") met) file (text_of (codes "blocks") met))) (text_of (codes "file") met)
 
 -- the command `serve`, by its numbers; an address has the form of a peer's name
-abbrev pub serve_with : ℕ → ℕ → ℕ → Met → Option Command
-serve_with count at_once budget met =
+abbrev pub serve_with : ℕ → ℕ → ℕ → Option ℕ → Met → Option Command
+serve_with count at_once budget grow met =
     option_and_then (λ file. option_and_then (λ address.
-    if is_name address then Some (Serve (is_set (codes "grow") met) count at_once budget file address) else None)
+    if is_name address then Some (Serve grow count at_once budget file address) else None)
     (text_of (codes "address") met)) (text_of (codes "file") met)
 
 -- the same, by what was found for its arguments
 abbrev pub serve_of : Met → Option Command
 serve_of met =
-    option_and_then (λ count. option_and_then (λ at_once. option_and_then (λ budget. serve_with count at_once budget met)
+    option_and_then (λ count. option_and_then (λ at_once. option_and_then (λ budget. option_and_then (λ grow.
+    serve_with count at_once budget grow met)
+    (growth_of (is_set (codes "grow") met) (text_of (codes "grow-bytes") met)))
     (budget_of (text_of (codes "budget") met))) (at_once_of (text_of (codes "at-once") met)))
     (count_of (is_set (codes "endless") met) (text_of (codes "connections") met))
 

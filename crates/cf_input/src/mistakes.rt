@@ -1,8 +1,8 @@
 //! What is wrong with words that ask for nothing, told to the user.
 use crate::words::{
-    MOST_AT_ONCE, MOST_BUDGET, MOST_CONNECTIONS, MOST_HEIGHT, MOST_MADE, MOST_PLAYED, MOST_SEED,
-    MOST_TURNS, MOST_WORKERS, at_once_of, budget_of, cli_command, count_of, is_met, is_set,
-    seed_of, text_of, texts_of, turns_of, workers_of,
+    MOST_AT_ONCE, MOST_BUDGET, MOST_CONNECTIONS, MOST_GROWTH, MOST_HEIGHT, MOST_MADE, MOST_PLAYED,
+    MOST_SEED, MOST_TURNS, MOST_WORKERS, at_once_of, budget_of, cli_command, count_of, growth_of,
+    is_met, is_set, seed_of, text_of, texts_of, turns_of, workers_of,
 };
 use cf_bytes::{MOST_PEERS, NoMemory};
 use clap::ArgMatches;
@@ -47,6 +47,14 @@ fn count_mistake(alloc: Global, matches: &ArgMatches) -> Result<String, NoMemory
     ranged(alloc, "N of --connections", 1, MOST_CONNECTIONS)
 }
 
+// What is wrong with a number of bytes that counts for nothing.
+fn growth_mistake(alloc: Global, matches: &ArgMatches) -> Result<String, NoMemory> {
+    if !is_set(matches, "grow") {
+        return Ok(format!(in alloc; "--grow-bytes goes with --grow alone")?);
+    }
+    ranged(alloc, "N of --grow-bytes", 1, MOST_GROWTH)
+}
+
 // What is out of its range in the words of `serve`.
 fn serve_mistake(alloc: Global, matches: &ArgMatches) -> Result<String, NoMemory> {
     let endless = is_set(matches, "endless");
@@ -56,6 +64,8 @@ fn serve_mistake(alloc: Global, matches: &ArgMatches) -> Result<String, NoMemory
         ranged(alloc, "N of --at-once", 1, MOST_AT_ONCE)
     } else if budget_of(text_of(matches, "budget")).is_none() {
         ranged(alloc, "N of --budget", 1, MOST_BUDGET)
+    } else if growth_of(is_set(matches, "grow"), text_of(matches, "grow-bytes")).is_none() {
+        growth_mistake(alloc, matches)
     } else {
         unnamed(alloc, "ADDRESS")
     }

@@ -3,7 +3,7 @@ ghost use Rattle.std.specs.Prelude.{◌≡◌, ◌==◌, IfOk, IfErr, [], map, f
 ghost use Rattle.std.specs.List.{list_any};
 ghost use Rattle.clap.specs.Words.{App, Rule, app_of, rule_of, new_rule, subcommand_of, subcommand_rows_of, fault_of, with_rule};
 ghost use Rattle.clap.specs.declared.builder.command.Command.TheViews.{out-Command as fields_of};
-ghost use Rattle.cf_input.specs.Words.{flag_rule, option_rule, several, needed, replay_app, options_app, peers_app, check_app, serve_app, one_app, two_app, make_app, with_sub, client_app, cli_app, text_of, texts_of, is_met, is_set, turns_of, workers_of, connections_of, height_of, seed_of, made_of, played_of, replay_of, over_peers, over_peers_of, scan_of, filter_of, address_of, hash_in, prove_of, check_of, serve_of, make_of, demo_of, HasFewPeers, asked_of, is_faultless, command_of, is_help_word, is_version_word, serve_options_app, count_of, at_once_of, budget_of, serve_with};
+ghost use Rattle.cf_input.specs.Words.{flag_rule, option_rule, several, needed, replay_app, options_app, peers_app, check_app, serve_app, one_app, two_app, make_app, with_sub, client_app, cli_app, text_of, texts_of, is_met, is_set, turns_of, workers_of, connections_of, height_of, seed_of, made_of, played_of, replay_of, over_peers, over_peers_of, scan_of, filter_of, address_of, hash_in, prove_of, check_of, serve_of, make_of, demo_of, HasFewPeers, asked_of, is_faultless, command_of, is_help_word, is_version_word, serve_options_app, count_of, at_once_of, budget_of, growth_of, serve_with};
 ghost use Rattle.cf_input.specs.Commands.{GivesOrUsage, IfUsage, refusal_of};
 
 use crate::number::{number_at_most, number_within};
@@ -46,6 +46,12 @@ pub const MOST_BUDGET: u32 = 1_000_000;
 
 /// So many megabytes of large messages are held at a time where no number is given.
 pub const USUAL_BUDGET: u32 = 256;
+
+/// At most this many bytes of blocks may join a chain that grows.
+pub const MOST_GROWTH: u32 = 4_294_967_295;
+
+/// So many bytes of blocks join at most where no number is given: as many as a file of blocks may have.
+pub const USUAL_GROWTH: u32 = 1_073_741_824;
 
 /// The greatest height that may be asked for.
 pub const MOST_HEIGHT: u32 = 4_294_967_295;
@@ -113,10 +119,10 @@ pub enum Command {
         blocks: Option<Word>,
     },
     /// The chain of a block file, served to so many connections to an address: as it is, or grown by what they bring.
-    /// At most `at_once` of them are served at a time, and all together hold at most `budget` megabytes of large
+    /// A chain that grows has the number of bytes of blocks that may join. At most `at_once` of them are served at a time, and all together hold at most `budget` megabytes of large
     /// messages.
     Serve {
-        grow: bool,
+        grow: Option<u32>,
         connections: u64,
         at_once: u32,
         budget: u32,
@@ -262,7 +268,8 @@ fn serve_options<'a>(alloc: Global) -> Result<clap::Command<'a>, AllocError>
     let command = with_arg(command, flag_arg(alloc, "endless"));
     let command = with_arg(command, option_arg(alloc, "connections"));
     let command = with_arg(command, option_arg(alloc, "at-once"));
-    with_arg(command, option_arg(alloc, "budget"))
+    let command = with_arg(command, option_arg(alloc, "budget"));
+    with_arg(command, option_arg(alloc, "grow-bytes"))
 }
 
 fn serve_command<'a>(alloc: Global) -> Result<clap::Command<'a>, AllocError>
@@ -475,6 +482,26 @@ pub(crate) fn budget_of(text: Option<&str>) -> Option<u32>
     }
 }
 
+/// How a served chain grows: not at all without `--grow`, and `--grow-bytes` may not be given then; else by so many
+/// bytes of blocks as `--grow-bytes` says, or 1,073,741,824 where no number is given.
+pub(crate) fn growth_of(grow: bool, text: Option<&str>) -> Option<Option<u32>>
+    ensures { result ≡ growth_of grow (option_map (λ s. s.now) text.entry) }
+{
+    if !grow {
+        return match text {
+            Some(_) => None,
+            None => Some(None),
+        };
+    }
+    match text {
+        Some(text) => match number_within(text.as_bytes(), MOST_GROWTH) {
+            Some(most) => Some(Some(most)),
+            None => None,
+        },
+        None => Some(Some(USUAL_GROWTH)),
+    }
+}
+
 fn height_of(text: &str) -> Option<u32>
     ensures { result ≡ height_of text.now }
 {
@@ -644,9 +671,10 @@ fn serve_with(
     connections: u64,
     at_once: u32,
     budget: u32,
+    grow: Option<u32>,
     matches: &ArgMatches,
 ) -> Result<Command, Refused<Usage>>
-    ensures exact { GivesOrUsage (serve_with connections at_once budget (subcommand_rows_of matches.now)) result }
+    ensures exact { GivesOrUsage (serve_with connections at_once budget grow (subcommand_rows_of matches.now)) result }
     ensures few { IfOk result HasFewPeers }
 {
     let file = text_of(matches, "file").ok_or(Usage)?;
@@ -656,7 +684,6 @@ fn serve_with(
     }
     let file = Word::new(alloc, file)?;
     let address = Word::new(alloc, address)?;
-    let grow = is_set(matches, "grow");
     Ok(Command::Serve {
         grow,
         connections,
@@ -675,7 +702,9 @@ fn read_serve(alloc: Global, matches: &ArgMatches) -> Result<Command, Refused<Us
     let connections = count_of(endless, text_of(matches, "connections")).ok_or(Usage)?;
     let at_once = at_once_of(text_of(matches, "at-once")).ok_or(Usage)?;
     let budget = budget_of(text_of(matches, "budget")).ok_or(Usage)?;
-    serve_with(alloc, connections, at_once, budget, matches)
+    let grow = is_set(matches, "grow");
+    let grow = growth_of(grow, text_of(matches, "grow-bytes")).ok_or(Usage)?;
+    serve_with(alloc, connections, at_once, budget, grow, matches)
 }
 
 fn read_make(alloc: Global, matches: &ArgMatches) -> Result<Command, Refused<Usage>>

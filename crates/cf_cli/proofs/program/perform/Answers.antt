@@ -161,7 +161,7 @@ pub returns-in-Serve : goal.returns-in-Serve
 returns-in-Serve g c =
     let link = g.L.Link in
     let tell : g.row.L.Denot → LinkTold = link_now link.addresses link.accepted link.owed link.conns link.given in
-    let serving : ℤ → Status → Type 0 = λ m s. IsServing c.in-Serve.grow s m c.args.nonce (g.F.Files.files c.args.files.now) c.as_str-in-Serve.result.now c.as_str-in-Serve-2.result.now c.in-Serve.connections (tell c.args.link.now) (tell c.serve.new.link) in
+    let serving : ℤ → Status → Type 0 = λ m s. IsServing (is_some c.in-Serve.grow) s m c.args.nonce (g.F.Files.files c.args.files.now) c.as_str-in-Serve.result.now c.as_str-in-Serve-2.result.now c.in-Serve.connections (tell c.args.link.now) (tell c.serve.new.link) in
     let served = subst (λ (m : ℤ). serving m c.serve.result) (to_z-of_z {w = w64} {z = c.args.moment} (search rules)) c.serve.ensures.serving in
     let known : Status → Type 0 = serving c.args.moment in
     rw c.in-Serve.is (record {
