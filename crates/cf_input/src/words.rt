@@ -488,10 +488,7 @@ pub(crate) fn growth_of(grow: bool, text: Option<&str>) -> Option<Option<u32>>
     ensures { result ≡ growth_of grow (option_map (λ s. s.now) text.entry) }
 {
     if !grow {
-        return match text {
-            Some(_) => None,
-            None => Some(None),
-        };
+        return if text.is_some() { None } else { Some(None) };
     }
     match text {
         Some(text) => match number_within(text.as_bytes(), MOST_GROWTH) {
