@@ -138,7 +138,7 @@ unspawned_by moves (Some n) status before after off = λ some most on. cc
 
 pub unspawned : {K : Type 0} {moves : K → Bool → K → Type 0} {command : Option Command} {status : Status} {before after : K} → has_run status ≡ false
     → UsesSpawner moves command status before after
-unspawned {K} {moves} {command} {status} {before} {after} off = unspawned_by moves (workers_in command) status before after off
+unspawned {K} {moves} {command} {status} {before} {after} off = record { workers = unspawned_by moves (workers_in command) status before after off }
 
 -- an answer to a file that couldn't be read, or was refused: nothing was carried out
 pub unrun_of_file : (status : Status) → IsOfFile status → has_run status ≡ false
@@ -159,9 +159,9 @@ unrun_of_file (NotInChain block) is = absurd is
 unrun_of_file (NotAddress cause) is = absurd is
 
 -- as many tasks as were asked for, where that is how many there are to be
-pub put_as : {K : Type 0} {moves : K → Bool → K → Type 0} {given asked : ℕ} {before after : K} → given ≡ asked → ArePut moves (given - 1) before after
+pub put_as : {K : Type 0} (moves : K → Bool → K → Type 0) {given asked : ℕ} (before after : K) → given ≡ asked → ArePut moves (given - 1) before after
     → ArePut moves (asked - 1) before after
-put_as {K} {moves} {given} {asked} {before} {after} same put = subst (λ (n : ℕ). ArePut moves (n - 1) before after) same put
+put_as {K} moves {given} {asked} before after same put = subst (λ (n : ℕ). ArePut moves (n - 1) before after) same put
 
 pub spawner_so : {K : Type 0} {moves : K → Bool → K → Type 0} {found : Option Command} {command : Command} {status : Status} {before after : K} → found ≡ Some command
     → UsesSpawner moves (Some command) status before after → UsesSpawner moves found status before after

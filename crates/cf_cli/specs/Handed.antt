@@ -88,6 +88,5 @@ pub record UsesOut {O : Type 0} (written : O → Option (List ℕ)) (faults : O 
 
 -- The spawner: a command that was carried out has put to it a task for each thread that it asks for to judge filters, from 1 to 64, but for the one that it
 -- runs in.
-abbrev pub UsesSpawner : {K : Type 0} → (K → Bool → K → Type 0) → Option Command → Status → K → K → Type 0
-UsesSpawner moves command status before after =
-    IfSome (workers_in command) (λ n. 1 ≤ n → n ≤ 64 → has_run status ≡ true → ArePut moves (n - 1) before after)
+pub record UsesSpawner {K : Type 0} (moves : K → Bool → K → Type 0) (command : Option Command) (status : Status) (before after : K) : Type 0 where
+  pub workers : IfSome (workers_in command) (λ n. 1 ≤ n → n ≤ 64 → has_run status ≡ true → ArePut moves (n - 1) before after)

@@ -32,7 +32,7 @@ returns-in-Replay g c =
       link = link_stays (is_not known c.replay.result LinkFault c.replay.ensures.answers (λ is. is));
       out = out_once refl c.replay.ensures.unwritten c.replay.ensures.counts;
       asked = is_not known c.replay.result Usage c.replay.ensures.answers (λ is. is);
-      spawner = tt;
+      spawner = record { workers = tt };
       ends = rw c.as_str-in-Replay.ensures at c.replay.ensures.ends;
     })
 
@@ -50,7 +50,7 @@ returns-in-Sync g c =
       link = link_stays (is_not known c.sync.result LinkFault answers (λ is. is));
       out = out_once refl c.sync.ensures.unwritten c.sync.ensures.counts;
       asked = is_not known c.sync.result Usage answers (λ is. is);
-      spawner = λ some most run. put_as (c.threads_of.ensures.same some most) (c.sync.ensures.threads run);
+      spawner = record { workers = λ some most run. put_as _ c.args.spawner.now c.sync.new.spawner (c.threads_of.ensures.same some most) (c.sync.ensures.threads run) };
       ends = rw c.as_slice.ensures at c.sync.ensures.ends;
     })
 
@@ -68,7 +68,7 @@ returns-in-Follow g c =
       link = link_stays (is_not known c.follow.result LinkFault answers (λ is. is));
       out = record { unwritten = λ off. c.follow.ensures.unwritten (is_on _ off); counts = c.follow.ensures.counts };
       asked = is_not known c.follow.result Usage answers (λ is. is);
-      spawner = λ some most run. put_as (c.threads_of-in-Follow.ensures.same some most) (c.follow.ensures.threads run);
+      spawner = record { workers = λ some most run. put_as _ c.args.spawner.now c.follow.new.spawner (c.threads_of-in-Follow.ensures.same some most) (c.follow.ensures.threads run) };
       ends = rw c.as_slice-in-Follow.ensures at c.follow.ensures.ends;
     })
 
@@ -85,7 +85,7 @@ returns-in-Scan g c =
       link = link_stays (is_not known c.scan.result LinkFault c.scan.ensures.scanned.answers (λ is. is));
       out = out_once refl c.scan.ensures.unwritten c.scan.ensures.counts;
       asked = is_not known c.scan.result Usage c.scan.ensures.scanned.answers (λ is. is);
-      spawner = tt;
+      spawner = record { workers = tt };
       ends = refl;
     })
 
@@ -102,7 +102,7 @@ returns-in-Filter g c =
       link = link_stays (is_not known c.filter.result LinkFault c.filter.ensures.filtered.answers (λ is. is));
       out = out_once refl c.filter.ensures.unwritten c.filter.ensures.counts;
       asked = is_not known c.filter.result Usage c.filter.ensures.filtered.answers (λ is. is);
-      spawner = tt;
+      spawner = record { workers = tt };
       ends = refl;
     })
 
@@ -119,7 +119,7 @@ returns-in-Address g c =
       link = link_stays (is_not known c.address.result LinkFault c.address.ensures.addressed (λ is. is));
       out = out_once refl c.address.ensures.unwritten c.address.ensures.counts;
       asked = is_not known c.address.result Usage c.address.ensures.addressed (λ is. is);
-      spawner = tt;
+      spawner = record { workers = tt };
       ends = refl;
     })
 
@@ -136,7 +136,7 @@ returns-in-Prove g c =
       link = link_stays (is_not known c.prove.result LinkFault c.prove.ensures.proved.answers (λ is. is));
       out = out_once refl c.prove.ensures.unwritten c.prove.ensures.counts;
       asked = is_not known c.prove.result Usage c.prove.ensures.proved.answers (λ is. is);
-      spawner = tt;
+      spawner = record { workers = tt };
       ends = refl;
     })
 
@@ -153,7 +153,7 @@ returns-in-Check g c =
       link = link_stays (is_not known c.check.result LinkFault c.check.ensures.checked.answers (λ is. is));
       out = out_once refl c.check.ensures.unwritten c.check.ensures.counts;
       asked = is_not known c.check.result Usage c.check.ensures.checked.answers (λ is. is);
-      spawner = tt;
+      spawner = record { workers = tt };
       ends = refl;
     })
 
@@ -174,7 +174,7 @@ returns-in-Serve g c =
       link = record { unserved = λ off. c.serve.ensures.unused (is_on _ off); fault = c.serve.ensures.link_fault; fine = c.serve.ensures.link_fine };
       out = out_stays (is_not known c.serve.result OutFault served (λ is. is));
       asked = is_not known c.serve.result Usage served (λ is. is);
-      spawner = tt;
+      spawner = record { workers = tt };
       ends = refl;
     })
 
@@ -191,7 +191,7 @@ returns-in-Make g c =
       link = link_stays (is_not known c.make.result LinkFault c.make.ensures.made (λ is. is));
       out = out_stays (is_not known c.make.result OutFault c.make.ensures.made (λ is. is));
       asked = is_not known c.make.result Usage c.make.ensures.made (λ is. is);
-      spawner = tt;
+      spawner = record { workers = tt };
       ends = refl;
     })
 
@@ -208,6 +208,6 @@ returns-in-Demo g c =
       link = link_stays (is_not known c.demo.result LinkFault c.demo.ensures.demoed (λ is. is));
       out = out_once refl c.demo.ensures.unwritten c.demo.ensures.counts;
       asked = is_not known c.demo.result Usage c.demo.ensures.demoed (λ is. is);
-      spawner = tt;
+      spawner = record { workers = tt };
       ends = refl;
     })
