@@ -50,7 +50,7 @@ returns-in-Sync g c =
       link = link_stays (is_not known c.sync.result LinkFault answers (λ is. is));
       out = out_once refl c.sync.ensures.unwritten c.sync.ensures.counts;
       asked = is_not known c.sync.result Usage answers (λ is. is);
-      spawner = record { workers = λ some most run. put_as _ c.args.spawner.now c.sync.new.spawner (c.threads_of.ensures.same some most) (c.sync.ensures.threads run) };
+      spawner = record { workers = λ some most run. put_as g.K.Spawner.moves c.args.spawner.now c.sync.new.spawner (c.threads_of.ensures.same some most) (c.sync.ensures.threads run) };
       ends = rw c.as_slice.ensures at c.sync.ensures.ends;
     })
 
@@ -68,7 +68,7 @@ returns-in-Follow g c =
       link = link_stays (is_not known c.follow.result LinkFault answers (λ is. is));
       out = record { unwritten = λ off. c.follow.ensures.unwritten (is_on _ off); counts = c.follow.ensures.counts };
       asked = is_not known c.follow.result Usage answers (λ is. is);
-      spawner = record { workers = λ some most run. put_as _ c.args.spawner.now c.follow.new.spawner (c.threads_of-in-Follow.ensures.same some most) (c.follow.ensures.threads run) };
+      spawner = record { workers = λ some most run. put_as g.K.Spawner.moves c.args.spawner.now c.follow.new.spawner (c.threads_of-in-Follow.ensures.same some most) (c.follow.ensures.threads run) };
       ends = rw c.as_slice-in-Follow.ensures at c.follow.ensures.ends;
     })
 
