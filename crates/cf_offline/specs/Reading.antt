@@ -1,5 +1,5 @@
 -- statement: what is promised of the commands that write a text of a file of blocks, or of an address.
-use Rattle.std.specs.Prelude.{◌≡◌, ◌≢◌, ℕ, ◌≤◌, nat_lt, Bool, true, false, List, [], ◌∷◌, ◌++◌, length, take, codes, Option, Some, None, IfSome, Result, Ok, Err}
+use Rattle.std.specs.Prelude.{◌≡◌, ℕ, nat_lt, Bool, true, false, List, [], ◌∷◌, ◌++◌, length, codes, Option, Some, None, IfSome, Result, Ok, Err}
 use Rattle.std.specs.FinMap as finite
 use Rattle.hex.specs.Hex.{encode_lower}
 use Rattle.cf_bytes.specs.Files.{Named}
