@@ -1,8 +1,8 @@
 use Rattle.cf.proofs.run_command.Goals as goal
 
 -- the hub of a network that is let go is as it was
-pub invariant_of-network : goal.invariant_of-network
-invariant_of-network g c =
+pub invariant_of-heard : goal.invariant_of-heard
+invariant_of-heard g c =
     record {
       waiting = c.drop.inside.hub.waiting;
       ticks = c.drop.inside.hub.ticks;
