@@ -30,25 +30,14 @@ fn put_next<R: Wait>(
     Some(())
 }
 
-// Puts what two senders put into a queue of 64 places, so many each, behind a text. The second one.
-fn put_sent<R: Wait>(
-    rt: &R,
-    alloc: Global,
-    queue: &mut Queue<u32>,
-    count: u32,
-    out: &mut String,
-) -> Option<Sender<u32>> {
-    let mut first = queue.sender().ok()?;
-    let mut second = queue.sender().ok()?;
-    let all = sent(rt, &mut first, count).saturating_add(sent(rt, &mut second, count));
-    put_next(rt, alloc, queue, all, out)?;
-    Some(second)
-}
-
 // What two senders put into a queue of 64 places, so many each, comes out of it.
 fn passed<R: Wait>(rt: &R, alloc: Global, count: u32, out: &mut String) -> Option<Sender<u32>> {
     let mut queue = Queue::new(alloc, 64).ok()?;
-    put_sent(rt, alloc, &mut queue, count, out)
+    let mut first = queue.sender().ok()?;
+    let mut second = queue.sender().ok()?;
+    let all = sent(rt, &mut first, count).saturating_add(sent(rt, &mut second, count));
+    put_next(rt, alloc, &mut queue, all, out)?;
+    Some(second)
 }
 
 /// What comes out of a queue of 64 places into which two senders put so many entries each, at most 32; and whether one
