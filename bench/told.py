@@ -27,6 +27,8 @@ SEED, BLOCKS, LONG = 7, 30, 60_000
 REGTEST = bytes.fromhex("fabfb5da")
 ROWS = (
     (b"51\n01087551\r\n", 2, "ends with CR"),
+    (REGTEST + b"\x50\0\0\0(\n", 1, "a file of blocks"),
+    (b"51\n\x7fELF(\0\n", 2, "isn't a text"),
     (b"\xef\xbb\xbf01087551\n", 1, "a byte order mark"),
     (b"01087551 \n", 1, "a blank"),
     (b"0x01087551\n", 1, "begins with 0x"),

@@ -6,6 +6,12 @@ use thiserror::Error;
 /// What a line of a watch file is, which is neither a script in hexadecimal nor an address of regtest.
 #[derive(Clone, Copy, Debug, PartialEq, Eq, Error)]
 pub enum LineKind {
+    /// It begins a file of blocks.
+    #[error("it is a file of blocks, where a file of scripts is wanted (`cf scan FILE WATCH`)")]
+    Blocks,
+    /// It has bytes of no text.
+    #[error("it isn't a text; each line is to be one script in hexadecimal, or an address of regtest")]
+    Binary,
     /// A byte order mark stands before it.
     #[error("it begins with a byte order mark; the file is to have none")]
     Mark,
@@ -64,10 +70,19 @@ fn is_base58(line: &[u8]) -> bool {
     fits && fronted && line.iter().all(is_of_base58)
 }
 
+// A byte that stands in no line of ASCII.
+fn is_of_no_text(b: &u8) -> bool {
+    !matches!(*b, b' '..=b'~' | b'\t' | b'\r')
+}
+
 // What a line is, where it has a mark of something that can't be watched.
 fn kind_of(line: &[u8]) -> Option<LineKind> {
-    if line.starts_with(&[0xef, 0xbb, 0xbf]) {
+    if line.starts_with(&[0xfa, 0xbf, 0xb5, 0xda]) {
+        Some(LineKind::Blocks)
+    } else if line.starts_with(&[0xef, 0xbb, 0xbf]) {
         Some(LineKind::Mark)
+    } else if line.iter().any(is_of_no_text) {
+        Some(LineKind::Binary)
     } else if line.contains(&b'(') {
         Some(LineKind::Descriptor)
     } else if is_extended(line) {
