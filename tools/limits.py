@@ -18,7 +18,7 @@ from crates import TOP  # noqa: E402
 
 CONSTANT = re.compile(r"^pub const ([A-Z_]+): (?:u8|u16|u32|u64|usize|i64) = ([^;]+);", re.MULTILINE)
 TERM = re.compile(r"[A-Z_]+|[0-9][0-9_]*|[-+*]")
-HELP = "crates/cf_answers/src/own_texts.rt"
+HELP, HELP_PAGES = "crates/cf_answers/src/own_texts.rt", "crates/cf_answers/src/pages.rt"
 TEXTS = {
     HELP: [
         "from 1 to {MOST_PEERS} peers, whose longest chain",
@@ -34,6 +34,18 @@ TEXTS = {
         "waits so long, from 1 to {MOST_REDIAL}, and dials",
         "1 to {MOST_PEERS} of them, numbered from 1",
         "has passed, from 1 to {MOST_SECONDS}",
+    ],
+    HELP_PAGES: [
+        "Dials 1 to {MOST_PEERS} peers, each HOST:PORT",
+        "deliveries, from 1 to {MOST_TURNS} (else {MOST_TURNS})",
+        "threads, from 1 to {MOST_WORKERS} (else {USUAL_WORKERS})",
+        "waits so long, from 1 to {MOST_REDIAL}, and dials",
+        "were served, from 1 to {MOST_CONNECTIONS} (else {MOST_CONNECTIONS})",
+        "at a time, from 1 to {MOST_AT_ONCE} (else {USUAL_AT_ONCE})",
+        "messages, from 1 to {MOST_BUDGET} (else {USUAL_BUDGET})",
+        "blocks at most, from 1 to {MOST_GROWTH} (else {USUAL_GROWTH})",
+        "BLOCKS, 1 to {MOST_MADE}. SEED, 0 to {MOST_SEED}, says",
+        "made chain of BLOCKS, 1 to {MOST_PLAYED}, blocks",
     ],
     "README.md": ["a good chain of at most {HEIGHT_LIMIT} blocks", "over TCP, with 1 to {MOST_PEERS} peers."],
     "docs/SERVER.md": [
@@ -101,7 +113,7 @@ def mistakes():
         with open(os.path.join(TOP, name)) as file:
             text = " ".join(file.read().split())
         for it in texts:
-            numbers = {key: str(value) if name == HELP else f"{value:,}" for key, value in known.items()}
+            numbers = {key: str(value) if name in (HELP, HELP_PAGES) else f"{value:,}" for key, value in known.items()}
             try:
                 wanted = it.format(**numbers)
             except KeyError as missing:
