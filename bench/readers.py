@@ -1,4 +1,4 @@
-"""Plain readers of the program's files, written from docs/MANUAL.md: what `replay`, `scan`, `filter`, `prove` and
+"""Plain readers of the program's files, written from docs/USER.md: what `replay`, `scan`, `filter`, `prove` and
 `check` have to come to; and what `serve` has to write to a peer, by BIP 157 and the Bitcoin developer reference.
 
 Each gives the status, the text, and the words in which the place of what is refused is told, or how a connection ended.

@@ -18,7 +18,7 @@ from crates import TOP  # noqa: E402
 
 CONSTANT = re.compile(r"^pub const ([A-Z_]+): (?:u8|u16|u32|u64|usize|i64) = ([^;]+);", re.MULTILINE)
 TERM = re.compile(r"[A-Z_]+|[0-9][0-9_]*|[-+*]")
-HELP = "crates/cf_answers/src/own_texts.rt"
+HELP, HELP_PAGES = "crates/cf_answers/src/own_texts.rt", "crates/cf_answers/src/pages.rt"
 TEXTS = {
     HELP: [
         "from 1 to {MOST_PEERS} peers, whose longest chain",
@@ -35,20 +35,42 @@ TEXTS = {
         "1 to {MOST_PEERS} of them, numbered from 1",
         "has passed, from 1 to {MOST_SECONDS}",
     ],
+    HELP_PAGES: [
+        "Dials 1 to {MOST_PEERS} peers, each HOST:PORT",
+        "deliveries, from 1 to {MOST_TURNS} (else {MOST_TURNS})",
+        "threads, from 1 to {MOST_WORKERS} (else {USUAL_WORKERS})",
+        "waits so long, from 1 to {MOST_REDIAL}, and dials",
+        "were served, from 1 to {MOST_CONNECTIONS} (else {MOST_CONNECTIONS})",
+        "at a time, from 1 to {MOST_AT_ONCE} (else {USUAL_AT_ONCE})",
+        "messages, from 1 to {MOST_BUDGET} (else {USUAL_BUDGET})",
+        "blocks at most, from 1 to {MOST_GROWTH} (else {USUAL_GROWTH})",
+        "BLOCKS, 1 to {MOST_MADE}. SEED, 0 to {MOST_SEED}, says",
+        "made chain of BLOCKS, 1 to {MOST_PLAYED}, blocks",
+    ],
     "README.md": ["a good chain of at most {HEIGHT_LIMIT} blocks", "over TCP, with 1 to {MOST_PEERS} peers."],
-    "docs/MANUAL.md": [
-        "at HEIGHT: 0 (genesis) to {MOST_HEIGHT}.",
-        "over TCP, with 1 to {MOST_PEERS} peers, each HOST:PORT",
-        "With `--redial`, 1 to {MOST_REDIAL}, it doesn't end",
-        "to N connections: 1 to {MOST_CONNECTIONS}, and {MOST_CONNECTIONS} where",
-        "1 to {MOST_AT_ONCE}, and {USUAL_AT_ONCE} where",
-        "1 to {MOST_BUDGET}, and {USUAL_BUDGET} where",
+    "docs/SERVER.md": [
+        "| `--connections N` | 1 to {MOST_CONNECTIONS} | {MOST_CONNECTIONS} |",
+        "| `--at-once N` | 1 to {MOST_AT_ONCE} | {USUAL_AT_ONCE} |",
+        "| `--budget N` | 1 to {MOST_BUDGET} | {USUAL_BUDGET} |",
+        "| `--grow-bytes N` | 1 to {MOST_GROWTH} | {USUAL_GROWTH} |",
+        "and the {MOST_WAITING} connections that wait",
+        "in all: `--connections N`, or no end: `--endless` | {MOST_CONNECTIONS} |",
+        "at a time: `--at-once N` | {USUAL_AT_ONCE} |",
+        "`--budget N` megabytes of 1,048,576 bytes | {USUAL_BUDGET} |",
+        "`--grow-bytes N` bytes, 1 to {MOST_GROWTH} | {USUAL_GROWTH} bytes |",
         "Until its `version` is answered | {VERSION_SECONDS} seconds",
         "its first byte to its last | {MESSAGE_SECONDS} seconds, and one more for each {BYTES_A_SECOND} bytes",
         "takes something of its answer | {WRITE_SECONDS} seconds",
         "two reads from it | {ANSWER_SECONDS} seconds, and one more for each {BYTES_A_SECOND} bytes",
         "of more than {LARGE} bytes, held",
         "in the system's queue | {MOST_WAITING} |",
+    ],
+    "docs/USER.md": [
+        "at HEIGHT: 0 (genesis) to {MOST_HEIGHT}.",
+        "over TCP, with 1 to {MOST_PEERS} peers, each HOST:PORT",
+        "| `--turns N` | 1 to {MOST_TURNS} | {MOST_TURNS} |",
+        "| `--workers N` | 1 to {MOST_WORKERS} | {USUAL_WORKERS} |",
+        "| `--redial SECONDS` | 1 to {MOST_REDIAL} |",
         "to BLOCKS: 1 to {MOST_MADE}. SEED, 0 to {MOST_SEED}, says",
         "of BLOCKS blocks: 1 to {MOST_PLAYED}.",
         "It would stand above height {HEIGHT_LIMIT}.",
@@ -91,7 +113,7 @@ def mistakes():
         with open(os.path.join(TOP, name)) as file:
             text = " ".join(file.read().split())
         for it in texts:
-            numbers = {key: str(value) if name == HELP else f"{value:,}" for key, value in known.items()}
+            numbers = {key: str(value) if name in (HELP, HELP_PAGES) else f"{value:,}" for key, value in known.items()}
             try:
                 wanted = it.format(**numbers)
             except KeyError as missing:

@@ -1,8 +1,8 @@
 #!/usr/bin/env python3
-"""Writes docs/PROMISES.md: what each public function of the libraries promises, from its doc comment and its clauses.
+"""Writes docs/PROMISES.md and docs/PROMISES/: what each public function of the libraries promises, from its doc comment and its clauses.
 
-    tools/promises.py            writes the file
-    tools/promises.py --check    writes nothing; status 1, and the first part that differs, where the file isn't what it would write
+    tools/promises.py            writes the files: one for each part of crates.txt, and the page that leads to them, which begins with `run`
+    tools/promises.py --check    writes nothing; status 1, and the first part that differs, where a file isn't what it would write
 
 It reads the sources as `rt fmt` lays them out, and proves nothing: the gate proves each clause.
 """
@@ -16,16 +16,23 @@ sys.path.insert(0, os.path.dirname(os.path.realpath(__file__)))
 from crates import TOP, below, headings  # noqa: E402
 from sources import Crate  # noqa: E402
 
-PAGE = "docs/PROMISES.md"
+PAGE, FOLDER = "docs/PROMISES.md", "PROMISES"
+RUN = "cf_cli", "run"
 WIDTH = 118
 LONGEST_DOC = 400
 HEAD = """# What each public function promises
 
 <!-- Written by tools/promises.py from the sources. Don't edit it: change the doc comments and clauses, and run tools/promises.py. -->
 
-Each library's public functions, methods, traits and laws, with the beginning of the doc comment and every clause. The gate proves each function to meet each of its `ensures`, and each call in the program to meet each `requires`. A law is a function that does nothing, whose clauses are theorems.
+Each library's public functions, methods, traits and laws, with the beginning of the doc comment and every clause: `run`, and then a page for each part of the repository, the program's first. The gate proves each function to meet each of its `ensures`, and each call in the program to meet each `requires`. A law is a function that does nothing, whose clauses are theorems.
 
 In a clause `x.old` is what a `&mut` argument held before the call and `x.new` what it holds after it, `x.now` what a `&` argument holds, `x.entry` what was handed in, and `result` the answer. A capital letter before a dot is a type parameter, with what its trait declares. The other names are definitions, under `crates/*/specs`, or of the kit: the `ghost use` lines of the source file say whose, and `./dev believe FUNCTION` prints all that a function's clauses reach.
+"""
+GROUP_HEAD = """# {group}: what each public function promises
+
+<!-- Written by tools/promises.py from the sources. Don't edit it: change the doc comments and clauses, and run tools/promises.py. -->
+
+[PROMISES.md](../PROMISES.md) says how the clauses are read, and leads to the other parts.
 """
 
 
@@ -129,23 +136,48 @@ def parts_of(crate, models):
             yield list(shown(name, item.doc, [item.head], rows))
 
 
-def page():
-    """The parts of the page, each a title and its text."""
-    libraries = [it for it in map(Crate, below()) if not it.is_program and any(True for _ in items_of(it))]
-    parts = [("the head", HEAD)]
-    contents = ["", "| Part | Library | Functions | Clauses | What it is |", "|---|---|---|---|---|"]
-    of, last = headings(), ""
+def group_of(heading):
+    """The name of the file of the libraries below a heading of crates.txt."""
+    return heading.split()[0].lower()
+
+
+def table_of(libraries):
+    """The table of the libraries, those of the program first."""
+    rows, of, last = ["| Part | Library | Functions | Clauses | What it is |", "|---|---|---|---|---|"], headings(), ""
     for crate in libraries:
         functions = [item for _, item in items_of(crate) if item.kind == "fn"]
         clauses = sum(len(item.clauses) for item in functions)
         heading, last = of[crate.name] if of[crate.name] != last else "", of[crate.name]
-        contents.append(f"| {heading} | [{crate.name}](#{crate.name}) | {len(functions)} | {clauses} | {beginning(crate.doc)} |")
-    parts.append(("the table of the libraries", "\n".join(contents) + "\n"))
+        link = f"[{crate.name}]({FOLDER}/{group_of(of[crate.name])}.md#{crate.name})"
+        rows.append(f"| {heading} | {link} | {len(functions)} | {clauses} | {beginning(crate.doc)} |")
+    return "\n".join(rows) + "\n"
+
+
+def text_of(lines):
+    return "\n".join(["", *lines[:-1], ""])
+
+
+def pages():
+    """The parts of each page, by its name: pairs of a title and a text."""
+    of = headings()
+    names = sorted(reversed(below()), key=lambda name: (group_of(of[name]) == "tests", name != RUN[0]))
+    libraries = [it for it in map(Crate, names) if not it.is_program and any(True for _ in items_of(it))]
+    run = next(part for crate in libraries if crate.name == RUN[0] for part in parts_of(crate, models_of(crate)) if part[0] == f"### {RUN[1]}")
+    found = {PAGE: [("the head", HEAD), ("run", text_of(["## `run`: all that the program does", *run[1:]])),
+                    ("the table of the libraries", f"\n## The libraries\n\n{table_of(libraries)}")]}
     for crate in libraries:
+        group = group_of(of[crate.name])
+        parts = found.setdefault(f"docs/{FOLDER}/{group}.md", [("the head", GROUP_HEAD.format(group=group.capitalize()))])
         parts.append((crate.name, f"\n## {crate.name}\n\n" + "\n".join(folded(beginning(crate.doc), "", "")) + "\n"))
-        for part in parts_of(crate, models_of(crate)):
-            parts.append((f"{crate.name}, {part[0].lstrip('# ')}", "\n".join(["", *part[:-1], ""])))
-    return parts
+        parts += [(f"{crate.name}, {part[0].lstrip('# ')}", text_of(part)) for part in parts_of(crate, models_of(crate))]
+    return found
+
+
+def others(found):
+    """The files of the folder that are none of these pages."""
+    folder = os.path.join(TOP, "docs", FOLDER)
+    names = [f"docs/{FOLDER}/{name}" for name in sorted(os.listdir(folder))] if os.path.isdir(folder) else []
+    return [name for name in names if name not in found]
 
 
 def first_difference(parts, found):
@@ -160,24 +192,39 @@ def first_difference(parts, found):
     return ("what follows the last part", found.count("\n", 0, place) + 1) if place < len(found) else None
 
 
+def written(name):
+    try:
+        with open(os.path.join(TOP, name), encoding="utf-8") as file:
+            return file.read()
+    except FileNotFoundError:
+        return ""
+
+
+def write(found):
+    os.makedirs(os.path.join(TOP, "docs", FOLDER), exist_ok=True)
+    for name, parts in found.items():
+        with open(os.path.join(TOP, name), "w", encoding="utf-8") as out:
+            out.write("".join(text for _, text in parts))
+    for name in others(found):
+        os.remove(os.path.join(TOP, name))
+
+
 def main(words):
     if words not in ([], ["--check"]):
         print("promises.py: it takes --check, or nothing", file=sys.stderr)
         return 2
-    parts = page()
-    file = os.path.join(TOP, PAGE)
+    found = pages()
     if not words:
-        with open(file, "w", encoding="utf-8") as out:
-            out.write("".join(text for _, text in parts))
+        write(found)
         return 0
-    try:
-        with open(file, encoding="utf-8") as found:
-            differs = first_difference(parts, found.read())
-    except FileNotFoundError:
-        differs = "the head", 1
-    if differs:
-        print(f"{PAGE}:{differs[1]}: {differs[0]} isn't what the sources say: run tools/promises.py", file=sys.stderr)
+    for name in others(found):
+        print(f"{name} is of no part of crates.txt: run tools/promises.py", file=sys.stderr)
         return 1
+    for name, parts in found.items():
+        differs = first_difference(parts, written(name))
+        if differs:
+            print(f"{name}:{differs[1]}: {differs[0]} isn't what the sources say: run tools/promises.py", file=sys.stderr)
+            return 1
     return 0
 
 

@@ -2,6 +2,7 @@
 #![tactic(auto)]
 
 mod own_texts;
+mod pages;
 mod status;
 mod writing;
 

@@ -1,12 +1,14 @@
 //! What the program says of itself.
-ghost use Rattle.std.specs.Prelude.{◌≡◌, drop, true, false, None, Some, option_map, string_bytes};
+ghost use Rattle.std.specs.Prelude.{◌≡◌, drop, find, not, true, false, None, Some, option_map, string_bytes};
 ghost use Rattle.std.specs.List.{list_any};
 ghost use Rattle.cf_input.specs.{is_help_word, is_version_word};
+ghost use Rattle.cf_answers.specs.Topics.{page_for, page_named};
 
-use cf_input::{is_help, is_version};
+use crate::pages::{ADDRESS, CHECK, DEMO, FILTER, FOLLOW, MAKE, PROVE, REPLAY, SCAN, SERVE, SYNC};
+use cf_input::{is_help, is_help_word, is_version};
 
 /// The answer to `--version`.
-pub const VERSION: &str = "cf 0.1.0\n";
+pub const VERSION: &str = "cf 0.2.0\n";
 
 /// The answer to `--help`.
 pub const HELP: &str = "\
@@ -31,6 +33,7 @@ usage: cf scan FILE WATCH
        cf check [--witness] FILE [BLOCKS]
        cf make [--witness] SEED BLOCKS FILE
        cf demo SEED BLOCKS
+       cf help COMMAND
        cf --help
        cf --version
 
@@ -91,8 +94,7 @@ SESSION is a text file of what happens: first a line on the dial of each peer,
     got P HEX      peer P sent these bytes    gone P        peer P has gone
     tick SECONDS   so much time has passed, from 1 to 86400
 
-Example, with the files of the folder data:
-    cf replay --trace data/watch.txt data/session.txt
+`cf help COMMAND` says more of one command, with an example.
 
 The exit status:
   0  done: the whole text was written
@@ -120,10 +122,63 @@ fn asked(words: &[String]) -> &[String]
     if words.is_empty() { words } else { &words[1..] }
 }
 
-/// The text that a word behind the program's name asks for: the help, or else the version.
+// The first word that asks for no help.
+fn topic(asked: &[String]) -> Option<&String>
+    ensures { option_map (λ w. w.now) result ≡ find (λ w. not (is_help_word (string_bytes w))) asked.now }
+{
+    asked.iter().find(|w| !is_help_word(w.as_str()))
+}
+
+// The page of the command of this name, or the help of all.
+fn page(name: &str) -> &'static str
+    ensures { result.now ≡ page_named name.now
+        HELP.now SCAN.now FILTER.now REPLAY.now SYNC.now FOLLOW.now SERVE.now ADDRESS.now PROVE.now CHECK.now MAKE.now DEMO.now }
+{
+    if name == "scan" {
+        SCAN
+    } else if name == "filter" {
+        FILTER
+    } else if name == "replay" {
+        REPLAY
+    } else if name == "sync" {
+        SYNC
+    } else if name == "follow" {
+        FOLLOW
+    } else if name == "serve" {
+        SERVE
+    } else if name == "address" {
+        ADDRESS
+    } else if name == "prove" {
+        PROVE
+    } else if name == "check" {
+        CHECK
+    } else if name == "make" {
+        MAKE
+    } else if name == "demo" {
+        DEMO
+    } else {
+        HELP
+    }
+}
+
+// The page that a word asks for, or the help of all.
+fn page_for(word: Option<&String>) -> &'static str
+    ensures { result.now ≡ page_for (option_map (λ w. string_bytes w.now) word.entry)
+        HELP.now SCAN.now FILTER.now REPLAY.now SYNC.now FOLLOW.now SERVE.now ADDRESS.now PROVE.now CHECK.now MAKE.now DEMO.now }
+{
+    match word {
+        Some(name) => page(name.as_str()),
+        None => HELP,
+    }
+}
+
+/// The text that words behind the program's name ask for. Where one asks for help it is the page of the first other
+/// word, if that is a command, or else the help of all; where none does it is the version.
 pub fn own_text(words: &[String]) -> Option<&'static str>
     ensures help { list_any (λ w. is_help_word (string_bytes w)) (drop 1 words.now) ≡ true
-        → option_map (λ text. text.now) result ≡ Some HELP.now }
+        → option_map (λ text. text.now) result ≡ Some (page_for
+        (option_map (λ w. string_bytes w) (find (λ w. not (is_help_word (string_bytes w))) (drop 1 words.now)))
+        HELP.now SCAN.now FILTER.now REPLAY.now SYNC.now FOLLOW.now SERVE.now ADDRESS.now PROVE.now CHECK.now MAKE.now DEMO.now) }
     ensures version { list_any (λ w. is_help_word (string_bytes w)) (drop 1 words.now) ≡ false
         → list_any (λ w. is_version_word (string_bytes w)) (drop 1 words.now) ≡ true
         → option_map (λ text. text.now) result ≡ Some VERSION.now }
@@ -132,7 +187,7 @@ pub fn own_text(words: &[String]) -> Option<&'static str>
 {
     let asked = asked(words);
     if is_help(asked) {
-        Some(HELP)
+        Some(page_for(topic(asked)))
     } else if is_version(asked) {
         Some(VERSION)
     } else {

@@ -24,5 +24,5 @@ pub use watch_file::{WatchCause, WatchFileFault, read_watch};
 pub use words::{
     Command, ENDLESS, MOST_AT_ONCE, MOST_BUDGET, MOST_CONNECTIONS, MOST_GROWTH, MOST_HEIGHT,
     MOST_MADE, MOST_PLAYED, MOST_SEED, MOST_TURNS, MOST_WORKERS, USUAL_AT_ONCE, USUAL_BUDGET,
-    USUAL_GROWTH, USUAL_WORKERS, Usage, is_help, is_version, read_words,
+    USUAL_GROWTH, USUAL_WORKERS, Usage, is_help, is_help_word, is_version, read_words,
 };

@@ -784,7 +784,8 @@ pub fn read_words(alloc: Global, words: &[String]) -> Result<Command, Refused<Us
     read_met(alloc, &matches)
 }
 
-fn is_help_word(word: &str) -> bool
+/// Whether this word asks for the help text.
+pub fn is_help_word(word: &str) -> bool
     ensures { result ≡ is_help_word word.now }
 {
     word == "help" || word == "--help" || word == "-h"
