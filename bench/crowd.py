@@ -7,8 +7,8 @@
     deaf       nobody reads standard error, and many connections come and go; then it is read, and one line tells how many were not written
     joins      the same of a server whose chain grows, by blocks that join
 
-A peer that comes is to be answered: its version by the server's. How the connections ended is to be told in the order in which they were accepted. The
-figures are printed, and the status is 1 where one is above its bound, or a case ends otherwise than it says.
+A peer that comes is to be answered: its version by the server's. From where each connection comes is to be told in their order, and once how it has ended.
+The figures are printed, and the status is 1 where one is above its bound, or a case ends otherwise than it says.
 
 A limit of threads is that of a user. As root the server runs as one that has no other process, USER; the program is copied to where that one may read it.
 """
@@ -81,16 +81,22 @@ class Server(Run):
         with open(f"/proc/{self.process.pid}/maps") as file:
             return pages * resource.getpagesize(), len(file.readlines())
 
+    def comings(self):
+        """The numbers of the connections that were told to have come, as they were told."""
+        return [int(number) for number in re.findall(r"^cf: connection (\d+): from 127\.0\.0\.1:\d+$", self.told(), re.M)]
+
     def ends(self):
-        """The numbers of the connections that were told to have ended, in order."""
-        return [int(number) for number in re.findall(r"^cf: connection (\d+):", self.told(), re.M)]
+        """The numbers of the connections that were told to have ended, in their order."""
+        return sorted(int(number) for number in re.findall(r"^cf: connection (\d+): (?!from )", self.told(), re.M))
 
     def faults_at_end(self, count):
         """What is otherwise than wanted once that many connections were accepted, and all have gone."""
         if not comes(self.is_over, WAIT * 10):
             return ["it has not ended"]
         found = [] if self.process.returncode == 0 else [f"status {self.process.returncode}"]
-        return found + ([] if self.ends() == list(range(1, count + 1)) else ["the ends are told in another order, or not all of them"])
+        every = list(range(1, count + 1))
+        found += [] if self.comings() == every else ["the connections that came are told in another order, or not all of them"]
+        return found + ([] if self.ends() == every else ["not each end is told once"])
 
 
 def threads(program, blocks, folder):
@@ -139,7 +145,7 @@ def ended(program, blocks, folder):
         found = [] if answered == SHORT else [f"{SHORT - answered} peers were not answered"]
         found += [] if bytes_after - bytes_before <= BYTES else [f"its memory grew by {bytes_after - bytes_before} bytes, more than {BYTES}"]
         found += [] if maps_after - maps_before <= MAPS else [f"its maps grew by {maps_after - maps_before}, more than {MAPS}"]
-        found += [] if server.ends() == [] else ["an end was told before that of the first connection"]
+        found += [] if comes(lambda: server.ends() == list(range(2, SHORT + 2))) else ["not each end is told while the first connection stays"]
         stays.close()
         server.peer().close()
         return found + server.faults_at_end(SHORT + 2)
@@ -232,7 +238,7 @@ def deaf(program, blocks, folder):
     try:
         start, answered = time.monotonic(), come_and_go(server, DEAF)
         print(f"    {answered} of {DEAF} connections were answered, in {time.monotonic() - start:.1f} s")
-        return ["a peer was not answered"] if answered < DEAF else server.faults(r"^cf: connection \d+: ", DEAF + 1)
+        return ["a peer was not answered"] if answered < DEAF else server.faults(r"^cf: connection \d+: ", 2 * (DEAF + 1))
     finally:
         server.process.kill()
 
@@ -251,7 +257,7 @@ def joins(program, blocks, folder):
             return ["the blocks were not taken"]
         print(f"    {BLOCKS} blocks were taken in {time.monotonic() - start:.1f} s")
         stream.socket.close()
-        return server.faults(r"^cf: block \d+ has joined$|^cf: connection \d+: ", BLOCKS + 2)
+        return server.faults(r"^cf: block \d+ has joined$|^cf: connection \d+: ", BLOCKS + 4)
     finally:
         server.process.kill()
 

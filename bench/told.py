@@ -8,6 +8,9 @@ PROGRAM is `.build/cf` unless it is named, and all cases run unless some are.
     outputs     a reader that is gone, and a full disk: the system's reason
     ports       a peer that is named without a port
     progress    a terminal is told how far a file was read, in one line that is gone at the end; nobody else is
+    working     a terminal is told for how long `make` and `demo` work, in one line that is gone at the end; nobody else is
+    comings     a server tells of connections as they come and end, where no other one follows; of several at a time; of
+                those of a full pipe nobody, and none of them waits
 
 The status is 1 where a case ends otherwise.
 """
@@ -15,15 +18,20 @@ import argparse
 import os
 import pty
 import re
+import subprocess
 import sys
+import threading
 import time
 
 from follow import Around, fails
 from grow import wanted
-from load import PAID, ROOT, Run, written
+from conversation import THEIR_VERSION
+from load import PAID, ROOT, Run, address_of, connected, written
 from made_chain import records
 
-SEED, BLOCKS, LONG = 7, 30, 60_000
+SEED, BLOCKS, LONG, MADE, PLAYED = 7, 30, 60_000, 200_000, 20_000
+# How many connections come at a time, how many while nobody reads, and how long a line is waited for, in seconds.
+CROWD, DEAF, SOON = 100, 200, 1
 REGTEST = bytes.fromhex("fabfb5da")
 ROWS = (
     (b"51\n01087551\r\n", 2, "ends with CR"),
@@ -161,7 +169,105 @@ def progress(around):
     return f"{len(lines)} lines in {seconds:.1f} seconds, and none where it is no terminal"
 
 
-CASES = (refused, doubtful, fronts, outputs, ports, progress)
+def working(around):
+    told = []
+    for words, work in ((["make", str(SEED), str(MADE), os.path.join(around.folder, "long")], "making blocks"),
+                        (["demo", str(SEED), str(PLAYED)], "making blocks and playing them")):
+        start = time.monotonic()
+        text, status = on_terminal([around.program, *words])
+        seconds = time.monotonic() - start
+        found = [int(n) for n in re.findall(rf"\rcf: {work}, (\d+) s", text)]
+        wanted(status == 0, words, status, text)
+        wanted(re.fullmatch(rf"((\rcf: {work}, \d+ s)+\r *\r)?", text), words, text)
+        wanted(found == sorted(set(found)) and (found or seconds < 1.5), words, found, seconds)
+        wanted(len(found) <= seconds and max(found, default=0) <= seconds, words, found, seconds)
+        run = Run([around.program, *words]).join()
+        wanted((run.status, run.told()) == (0, ""), words, run.status, run.told())
+        told.append(f"{len(found)} lines in {seconds:.1f} seconds")
+    return ", ".join(told) + ", and none where it is no terminal"
+
+
+def soon(server, line, count=1):
+    """Whether standard error has so many such lines, within a second."""
+    end = time.monotonic() + SOON
+    while time.monotonic() < end:
+        if len(re.findall(f"^cf: {line}$", server.told(), re.M)) == count:
+            return True
+        time.sleep(0.01)
+    return False
+
+
+def serving(around, connections):
+    server = Run([around.program, "serve", "--connections", str(connections), around.blocks, "127.0.0.1:0"])
+    return server, address_of(server)
+
+
+def name_of(peer):
+    return re.escape("%s:%d" % peer.getsockname())
+
+
+def comings(around):
+    server, address = serving(around, 4 + CROWD)
+    one = connected(address)
+    wanted(soon(server, f"connection 1: from {name_of(one)}"), server.told())
+    one.close()
+    wanted(soon(server, "connection 1: the peer has closed it"), server.told())
+    silent = [connected(address), connected(address)]
+    for number, peer in enumerate(silent, 2):
+        wanted(soon(server, f"connection {number}: from {name_of(peer)}"), server.told())
+    wanted(soon(server, r"connection [23]: (?!from ).*", 0), server.told())
+    silent[1].close()
+    wanted(soon(server, "connection 3: the peer has closed it"), server.told())
+    bad = connected(address)
+    bad.sendall(bytes(24))
+    wanted(soon(server, f"connection 4: from {name_of(bad)}"), server.told())
+    wanted(soon(server, "connection 4: what came is no frame"), server.told())
+    silent[0].close()
+    wanted(soon(server, "connection 2: the peer has closed it"), server.told())
+    crowd = [connected(address) for _ in range(CROWD)]
+    for peer in crowd:
+        threading.Thread(target=peer.close).start()
+    wanted(server.join().status == 0, server.status)
+    lines = server.told().splitlines()[2:]
+    wanted(len(lines) == 2 * (4 + CROWD), len(lines), lines)
+    for number in range(1, 5 + CROWD):
+        own = [line for line in lines if line.startswith(f"cf: connection {number}: ")]
+        wanted(len(own) == 2 and re.fullmatch(r"cf: connection \d+: from 127\.0\.0\.1:\d+", own[0]), number, own)
+    return f"{2 * (4 + CROWD)} lines, and nobody reads: " + unread(around)
+
+
+def unread(around):
+    """Connections to a server whose standard error is full from the start, once it serves."""
+    ours, theirs = os.pipe()
+    server = subprocess.Popen([around.program, "serve", "--connections", str(DEAF), around.blocks, "127.0.0.1:0"],
+                              stdin=subprocess.DEVNULL, stdout=subprocess.DEVNULL, stderr=theirs)
+    try:
+        said = b""
+        while b"cf: serving" not in said:
+            said += os.read(ours, 4096)
+        os.set_blocking(theirs, False)
+        try:
+            while True:
+                os.write(theirs, bytes(1))
+        except BlockingIOError:
+            os.set_blocking(theirs, True)
+        os.close(theirs)
+        address = re.search(r"listening on (\S+)", said.decode()).group(1)
+        start = time.monotonic()
+        for _ in range(DEAF):
+            with connected(address) as peer:
+                peer.sendall(THEIR_VERSION)
+                wanted(peer.recv(24), "a peer is not answered")
+        seconds = time.monotonic() - start
+        wanted(server.wait(timeout=20) == 0, server.returncode)
+        os.close(ours)
+        return f"{DEAF} connections in {seconds:.1f} seconds"
+    finally:
+        server.kill()
+        server.wait()
+
+
+CASES = (refused, doubtful, fronts, outputs, ports, progress, working, comings)
 
 
 def main():

@@ -9,9 +9,9 @@ use cf_answers::{Status, own_text};
 use cf_bytes::{Refused, put_all};
 use cf_cli::run;
 use cf_cli_host::{
-    Call, Edge, Failure, Heard, Joined, Listener, Redial, ShownFiles, TextSink, hold, is_follow,
-    moment, nonce, read_call, read_dials, tell, tell_advice, tell_hint, tell_stands, try_record,
-    with_turns, words_of,
+    Call, Edge, Failure, Heard, Joined, Listener, Redial, ShownFiles, TextSink, Working, hold,
+    is_follow, moment, nonce, read_call, read_dials, tell, tell_advice, tell_hint, tell_stands,
+    try_record, with_turns, words_of,
 };
 use cf_network::Network;
 use cf_tasks::{InThreads, Spawner};
@@ -109,6 +109,9 @@ fn run_command<
     let mut heard = Heard::new(network);
     let mut files = ShownFiles::new(teller, dials.watches);
     let mut ends = Vec::new(alloc);
+    let Ok(working) = Working::begin(teller, spawner, words) else {
+        return not_begun(teller, words);
+    };
     let status = run(
         handle,
         alloc,
@@ -125,6 +128,7 @@ fn run_command<
         out,
         &mut ends,
     );
+    working.end(spawner);
     files.end();
     let _stands = tell_stands(teller, &status, &ends, &heard.wires);
     let _advice = tell_advice(teller, words, &ends, &heard);

@@ -18,6 +18,7 @@ mod seen;
 mod shown_files;
 mod standing;
 mod text_sink;
+mod working;
 
 pub use advice::tell_advice;
 pub use descriptors::hold;
@@ -34,3 +35,4 @@ pub use seen::LineKind;
 pub use shown_files::{Seen, ShownFiles};
 pub use standing::tell_stands;
 pub use text_sink::TextSink;
+pub use working::Working;

@@ -4,10 +4,11 @@ ghost use Rattle.std.specs.Prelude.{◌≡◌, ◌-◌, None};
 use cf_answers::Status;
 use cf_bytes::{Failed, Hash32, NoMemory, Refused, show};
 use cf_input::{Command, read_words};
-use cf_link::{Limits, Link, TcpConn, TcpEnd, TcpLink};
+use cf_link::{Limits, Link, TcpConn, TcpEnd, TcpLink, Watcher};
 use cf_outside::is_host_and_port;
 use cf_tell::Teller;
 use std::io::{self, ErrorKind};
+use std::net::SocketAddr;
 
 // So many bytes are a megabyte.
 const MEGABYTE: u64 = 1_048_576;
@@ -27,14 +28,31 @@ fn limits_of(command: &Command) -> Limits {
     }
 }
 
-/// A listener over TCP. It tells on standard error where it listens, which chain is served, and how each connection
-/// ended, in the order in which they were accepted: of one that is over, once the next one comes or none is accepted
-/// any more.
+/// Tells on standard error of each connection at once when it comes, and when it ends.
+#[derive(Clone, Copy)]
+pub struct ToldConns {
+    teller: &'static Teller,
+}
+
+impl Watcher for ToldConns {
+    fn came(&self, number: u64, peer: Option<SocketAddr>) {
+        let _told = match peer {
+            Some(peer) => eprintln!(self.teller; "cf: connection {number}: from {peer}"),
+            None => eprintln!(self.teller; "cf: connection {number}: from a peer that has gone"),
+        };
+    }
+
+    fn ended(&self, number: u64, how: u8) {
+        let _told = eprintln!(self.teller; "cf: connection {number}: {}", way(how));
+    }
+}
+
+/// A listener over TCP. It tells on standard error where it listens, which chain is served, and of each connection at
+/// once from where it comes and how it has ended.
 #[derive(Drop)]
 pub struct Listener {
     teller: &'static Teller,
-    link: TcpLink<&'static Teller>,
-    told: u64,
+    link: TcpLink<&'static Teller, ToldConns>,
 }
 
 impl Listener {
@@ -46,8 +64,12 @@ impl Listener {
     pub fn new(teller: &'static Teller, limits: Limits) -> Result<Listener, NoMemory> {
         Ok(Listener {
             teller,
-            link: TcpLink::new(teller, teller.runtime().alloc(), limits)?,
-            told: 0,
+            link: TcpLink::new(
+                teller,
+                teller.runtime().alloc(),
+                limits,
+                ToldConns { teller },
+            )?,
         })
     }
 
@@ -111,11 +133,6 @@ impl Listener {
         }
     }
 
-    // Tells how the connection ended that is told of now.
-    fn tell_end(&self, how: u8) -> io::Result<()> {
-        eprintln!(self.teller; "cf: connection {}: {}", self.told, way(how))
-    }
-
     // Tells the tip of the chain.
     fn tell_tip(&self, height: u32, tip: &Hash32) -> io::Result<()> {
         match show(self.teller.runtime().alloc(), tip) {
@@ -140,7 +157,7 @@ fn way(how: u8) -> &'static str {
 }
 
 impl Link for Listener {
-    type Conn = TcpConn<&'static Teller>;
+    type Conn = TcpConn<&'static Teller, ToldConns>;
 
     ghost faults = { λ l. l.link.faults };
 
@@ -167,7 +184,7 @@ impl Link for Listener {
         let _told = self.tell_tip(height, tip);
     }
 
-    fn accept(&mut self) -> Result<TcpConn<&'static Teller>, Failed> {
+    fn accept(&mut self) -> Result<TcpConn<&'static Teller, ToldConns>, Failed> {
         let answer = self.link.accept();
         if answer.is_err() {
             let _told = self.tell_reason("the next connection");
@@ -180,8 +197,6 @@ impl Link for Listener {
     }
 
     fn give_back(&mut self, end: TcpEnd, how: u8) {
-        self.told = self.told.saturating_add(1);
-        let _told = self.tell_end(how);
         self.link.give_back(end, how);
     }
 }

@@ -9,7 +9,7 @@ use cf_link::{Limits, Link, TcpConn, TcpEnd, TcpLink};
 /// A listener over TCP, which tells its port once it listens.
 #[derive(Drop)]
 pub(crate) struct ToldLink {
-    link: TcpLink<HostRuntime>,
+    link: TcpLink<HostRuntime, ()>,
     port: Count,
 }
 
@@ -17,7 +17,7 @@ impl ToldLink {
     /// A listener that doesn't listen yet.
     pub(crate) fn new(rt: HostRuntime, port: Count) -> Result<ToldLink, NoMemory> {
         Ok(ToldLink {
-            link: TcpLink::new(rt, rt.alloc(), Limits::usual())?,
+            link: TcpLink::new(rt, rt.alloc(), Limits::usual(), ())?,
             port,
         })
     }
@@ -31,7 +31,7 @@ impl ToldLink {
 }
 
 impl Link for ToldLink {
-    type Conn = TcpConn<HostRuntime>;
+    type Conn = TcpConn<HostRuntime, ()>;
 
     ghost faults = { λ l. l.link.faults };
 
@@ -57,7 +57,7 @@ impl Link for ToldLink {
         self.link.announce(height, tip);
     }
 
-    fn accept(&mut self) -> Result<TcpConn<HostRuntime>, Failed> {
+    fn accept(&mut self) -> Result<TcpConn<HostRuntime, ()>, Failed> {
         self.link.accept()
     }
 

@@ -5,6 +5,7 @@ ghost use Rattle.cf_bytes.specs.{HasRisen, is_refused, after_call};
 ghost use Rattle.cf_link.specs.Links.{IsFresh, can_listen, listen_addresses, longer_by, told_now};
 
 use crate::link::Link;
+use crate::task::Observed;
 use cf_bytes::{Failed, Hash32, NoMemory, Plan};
 use cf_conn::Duplex;
 use std::alloc::Global;
@@ -17,7 +18,7 @@ const MOST_ADDRESS: usize = 255;
 /// Gives connections from a list, and keeps what is given back, with calls that are to fail. It listens once, at an
 /// address of at most 255 bytes, for which it has room from the start.
 #[derive(Drop)]
-pub struct ListLink<C: Duplex + Drop>
+pub struct ListLink<C: Duplex + Observed + Drop>
 where
     C::End: Drop,
 {
@@ -40,7 +41,7 @@ where
     ghost silent: { listens ≡ false → address.items ≡ [] },
 }
 
-impl<C: Duplex + Drop> ListLink<C>
+impl<C: Duplex + Observed + Drop> ListLink<C>
 where
     C::End: Drop,
 {
@@ -92,7 +93,7 @@ where
     }
 }
 
-impl<C: Duplex + Drop> Link for ListLink<C>
+impl<C: Duplex + Observed + Drop> Link for ListLink<C>
 where
     C::End: Drop,
 {

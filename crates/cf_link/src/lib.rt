@@ -23,5 +23,5 @@ pub use paced::{
     WRITE_SECONDS,
 };
 pub use serving::{ServeFail, serve};
-pub use task::{ServeTask, ServedEnd, Service};
-pub use tcp::{TcpConn, TcpEnd, TcpLink};
+pub use task::{Observed, ServeTask, ServedEnd, Service};
+pub use tcp::{TcpConn, TcpEnd, TcpLink, Watcher};

@@ -4,13 +4,14 @@ ghost use Rattle.cf_bytes.specs.{HasRisen};
 ghost use Rattle.cf_conn.specs.{ConnTold};
 ghost use Rattle.cf_link.specs.Links.{Given, IsFresh, longer_by, told_now};
 
+use crate::task::Observed;
 use cf_bytes::{Failed, Hash32};
 use cf_conn::Duplex;
 
 /// Where connections come from. Each one that is accepted is given back once it was served.
 pub trait Link {
     /// A connection.
-    type Conn: Duplex + Drop;
+    type Conn: Duplex + Observed + Drop;
 
     /// How often it has failed. The count stands still at the greatest u64.
     ghost faults: { Self → ℕ };

@@ -7,7 +7,7 @@ use crate::pass::{Pass, millis};
 use cf_tasks::{read_some, write_some};
 use std::alloc::Global;
 use std::io::ErrorKind;
-use std::net::{Shutdown, TcpStream};
+use std::net::{Shutdown, SocketAddr, TcpStream};
 use std::sync::Arc;
 use std::time::{Clock, Duration};
 use std::{io, thread};
@@ -115,6 +115,15 @@ impl<R: Clock + Drop> Paced<R> {
             answer: None,
             patience: 0,
         }
+    }
+
+    /// The address of the peer.
+    ///
+    /// # Errors
+    ///
+    /// Where the system doesn't tell it, as it does of a peer that has gone.
+    pub(crate) fn peer_addr(&self) -> io::Result<SocketAddr> {
+        self.pass.stream().peer_addr()
     }
 
     // The last answer is over, and with it what was held for a message that has come as a whole.

@@ -12,7 +12,7 @@ ghost use Rattle.cf_link.specs.declared.task.ServeTask.{ServeTask as TaskOf};
 use crate::flag::{Flag, SharedFlag};
 use crate::line::{Ended, Line};
 use crate::link::Link;
-use crate::task::{ServeTask, ServedEnd, Service};
+use crate::task::{Observed, ServeTask, ServedEnd, Service};
 use cf_bytes::{Failed, NoMemory, Refused};
 use cf_conn::Duplex;
 use cf_tasks::{Spawner, Task};
@@ -33,11 +33,12 @@ struct Share<S, F> {
 }
 
 // Runs a task in place. No other one runs, or starts were refused until their count stood still.
-fn run_alone<C: Duplex + Drop + Send + 'static, S: Service + Send + 'static, F: Flag, K: Spawner>(
-    spawner: &K,
-    line: &mut Line<ServeTask<C, S>, F>,
-    task: ServeTask<C, S>,
-)
+fn run_alone<
+    C: Duplex + Observed + Drop + Send + 'static,
+    S: Service + Send + 'static,
+    F: Flag,
+    K: Spawner,
+>(spawner: &K, line: &mut Line<ServeTask<C, S>, F>, task: ServeTask<C, S>)
 where
     C::End: Drop + Send + 'static,
     requires room { line.old.room ≡ true }

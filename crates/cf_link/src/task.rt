@@ -4,7 +4,7 @@ ghost use Rattle.cf_conn.specs.{ConnTold};
 ghost use Rattle.cf_link.specs.Links.{told_now};
 
 use cf_bytes::NoMemory;
-use cf_conn::Duplex;
+use cf_conn::{Duplex, MemoryConn};
 use cf_tasks::Task;
 use std::alloc::Global;
 use std::sync::Arc;
@@ -25,6 +25,18 @@ pub trait Service: Drop {
             (told_now C.left C.written C.ended C.Source.faults C.Sink.faults conn.new) };
 }
 
+/// A connection that is told how it has ended.
+pub trait Observed {
+    /// It was served, and has ended in the way of this number. It is told so by the thread that served it, before it is
+    /// closed.
+    fn ended(&self, how: u8);
+}
+
+/// One in memory passes nothing on.
+impl Observed for MemoryConn {
+    fn ended(&self, _how: u8) {}
+}
+
 /// A connection, a share of the service, and a flag that is raised when it was served.
 #[derive(Drop)]
 pub struct ServeTask<C, S> {
@@ -40,7 +52,7 @@ pub struct ServedEnd<E> {
     pub how: u8,
 }
 
-impl<C: Duplex + Drop, S: Service> Task for ServeTask<C, S>
+impl<C: Duplex + Observed + Drop, S: Service> Task for ServeTask<C, S>
 where
     C::End: Drop,
 {
@@ -56,6 +68,7 @@ where
             over,
         } = self;
         let how = service.serve(&mut conn);
+        conn.ended(how);
         let end = conn.close();
         over.store(true, Ordering::SeqCst);
         ServedEnd { end, how }

@@ -6,6 +6,7 @@ use crate::door::Door;
 use crate::limits::Limits;
 use crate::link::Link;
 use crate::paced::Paced;
+use crate::task::Observed;
 use cf_bytes::{Failed, Hash32, NoMemory, Sink};
 use cf_conn::{Duplex, Source};
 use std::alloc::Global;
@@ -17,11 +18,29 @@ use std::{io, thread};
 // How long a pause is, in milliseconds.
 const PAUSE: u64 = 100;
 
+/// Who is told of the connections of a listener over TCP, each by its number, from 1.
+pub trait Watcher {
+    /// This connection was accepted, from this address where the system tells it.
+    fn came(&self, number: u64, peer: Option<SocketAddr>);
+
+    /// This connection has ended in the way of the second number. The thread that served it tells so.
+    fn ended(&self, number: u64, how: u8);
+}
+
+/// Nobody is told.
+impl Watcher for () {
+    fn came(&self, _number: u64, _peer: Option<SocketAddr>) {}
+
+    fn ended(&self, _number: u64, _how: u8) {}
+}
+
 /// A connection over TCP. Its peer is held to times, and what it sends to a budget: where the peer is late, a read or
 /// a write fails.
 #[derive(Drop)]
-pub struct TcpConn<R> {
+pub struct TcpConn<R, W> {
     paced: Paced<R>,
+    watcher: W,
+    number: u64,
     ended: bool,
     reads: u64,
     writes: u64,
@@ -35,7 +54,7 @@ pub struct TcpEnd {
     writes: u64,
 }
 
-impl<R: Clock + Drop> Source for TcpConn<R> {
+impl<R: Clock + Drop, W: Drop> Source for TcpConn<R, W> {
     ghost left = { λ _. None };
 
     ghost ended = { λ c. c.ended };
@@ -47,7 +66,7 @@ impl<R: Clock + Drop> Source for TcpConn<R> {
     }
 }
 
-impl<R: Clock + Drop> Sink for TcpConn<R> {
+impl<R: Clock + Drop, W: Drop> Sink for TcpConn<R, W> {
     ghost written = { λ _. None };
 
     ghost faults = { λ c. c.writes };
@@ -59,7 +78,7 @@ impl<R: Clock + Drop> Sink for TcpConn<R> {
     }
 }
 
-impl<R: Clock + Drop> Duplex for TcpConn<R> {
+impl<R: Clock + Drop, W: Drop> Duplex for TcpConn<R, W> {
     type End = TcpEnd;
 
     ghost tells = { λ e. record {
@@ -99,6 +118,7 @@ impl<R: Clock + Drop> Duplex for TcpConn<R> {
             ended,
             reads,
             writes,
+            ..
         } = self;
         paced.close();
         TcpEnd {
@@ -109,14 +129,21 @@ impl<R: Clock + Drop> Duplex for TcpConn<R> {
     }
 }
 
+impl<R, W: Watcher> Observed for TcpConn<R, W> {
+    fn ended(&self, how: u8) {
+        self.watcher.ended(self.number, how);
+    }
+}
+
 /// A listener over TCP. It tells neither addresses nor bytes. It serves so many connections at a time as its limits
 /// say; the next ones wait, or one is cut for them that has told no `version` for a second, that has left a message or
 /// an answer where it is for five, that is idle for a minute, or whose address has more than a quarter of all. Where the
 /// system has no memory or no descriptor for the next connection, it waits, and tells that on standard error, at most
 /// once a minute.
 #[derive(Drop)]
-pub struct TcpLink<R> {
+pub struct TcpLink<R, W> {
     rt: R,
+    watcher: W,
     door: Door,
     reason: Option<io::Error>,
     faults: u64,
@@ -125,20 +152,22 @@ pub struct TcpLink<R> {
     ghost order: { returned ≤ accepted },
 }
 
-impl<R: Net<Listener = TcpListener, Stream = TcpStream>> TcpLink<R> {
-    /// A link that doesn't listen yet, with these limits.
+impl<R: Net<Listener = TcpListener, Stream = TcpStream>, W> TcpLink<R, W> {
+    /// A link that doesn't listen yet, with these limits. The watcher is told of its connections.
     ///
     /// # Errors
     ///
     /// Where no memory is found.
-    pub fn new(rt: R, alloc: Global, limits: Limits) -> Result<TcpLink<R>, NoMemory>
+    pub fn new(rt: R, alloc: Global, limits: Limits, watcher: W) -> Result<TcpLink<R, W>, NoMemory>
     where
         R: Drop,
+        W: Drop,
         ensures { IfOk result (λ l. (l.faults ≡ 0) × (l.accepted ≡ 0) × (l.returned ≡ 0)) }
     {
         match Door::new(alloc, limits) {
             Some(door) => Ok(TcpLink {
                 rt,
+                watcher,
                 door,
                 reason: None,
                 faults: 0,
@@ -187,9 +216,11 @@ impl<R: Net<Listener = TcpListener, Stream = TcpStream>> TcpLink<R> {
     }
 }
 
-impl<R: Net<Listener = TcpListener, Stream = TcpStream> + Clock + Eprint + Copy + Drop> Link
-    for TcpLink<R> {
-    type Conn = TcpConn<R>;
+impl<
+    R: Net<Listener = TcpListener, Stream = TcpStream> + Clock + Eprint + Copy + Drop,
+    W: Watcher + Copy + Drop,
+> Link for TcpLink<R, W> {
+    type Conn = TcpConn<R, W>;
 
     ghost faults = { λ l. l.faults };
 
@@ -215,15 +246,18 @@ impl<R: Net<Listener = TcpListener, Stream = TcpStream> + Clock + Eprint + Copy 
 
     fn announce(&mut self, _height: u32, _tip: &Hash32) {}
 
-    fn accept(&mut self) -> Result<TcpConn<R>, Failed> {
+    fn accept(&mut self) -> Result<TcpConn<R, W>, Failed> {
         if self.accepted == u64::MAX {
             return Err(self.failed(io::Error::from(ErrorKind::QuotaExceeded)));
         }
         match self.door.next(&self.rt) {
             Ok(paced) => {
                 self.accepted += 1;
+                self.watcher.came(self.accepted, paced.peer_addr().ok());
                 Ok(TcpConn {
                     paced,
+                    watcher: self.watcher,
+                    number: self.accepted,
                     ended: false,
                     reads: 0,
                     writes: 0,

@@ -9,19 +9,25 @@ use std::boxed::Box;
 use std::fmt::Display;
 use std::io::{self, Eprint};
 use std::net::{Net, SocketAddr, TcpListener, TcpStream};
-use std::sync::atomic::{AtomicU64, Ordering};
+use std::sync::atomic::{AtomicBool, AtomicU64, Ordering};
 use std::time::{Clock, Duration};
 
 /// How long standard error is waited for until it has room, in milliseconds. It isn't waited for while there are lines
 /// that were not written.
 const PATIENCE: i32 = 10;
 
+// How often a thread asks for its turn, a millisecond after it has asked last.
+const TRIES: u32 = 200;
+
 /// Writes lines to standard error, and waits only a moment for whoever reads them. A line for which there is no room is
-/// counted instead. Before the next line for which there is room, one line tells how many were not written. The clock
-/// and the network are those of the process.
+/// counted instead. Before the next line for which there is room, one line tells how many were not written. Of several
+/// threads one writes at a time, so that the room which was found is there. The clock and the network are those of the
+/// process.
 #[derive(Drop)]
 pub struct Teller {
     rt: HostRuntime,
+    // Whether a thread looks for room now, or writes.
+    busy: AtomicBool,
     // How many lines were not written and not told of yet.
     unwritten: AtomicU64,
 }
@@ -31,6 +37,7 @@ impl Teller {
     pub fn new(rt: HostRuntime) -> Teller {
         Teller {
             rt,
+            busy: AtomicBool::new(false),
             unwritten: AtomicU64::new(0),
         }
     }
@@ -78,8 +85,24 @@ impl Teller {
         eprintln!(&self.rt; "cf: {n} lines were not written")
     }
 
-    /// Tells how many lines were not written, where that is any number but 0 and standard error has room.
-    pub fn tell_unwritten(&self) {
+    // Waits for its turn. False where others have it for all the time that may be waited.
+    fn take_turn(&self) -> bool {
+        for _ in 0..TRIES {
+            if !self.busy.swap(true, Ordering::SeqCst) {
+                return true;
+            }
+            self.rt.sleep(Duration::from_millis(1));
+        }
+        false
+    }
+
+    // Its turn is over.
+    fn end_turn(&self) {
+        self.busy.store(false, Ordering::SeqCst);
+    }
+
+    // Tells how many lines were not written, where standard error has room.
+    fn tell_count(&self) {
         if !self.lacks() || !self.has_room() {
             return;
         }
@@ -89,31 +112,48 @@ impl Teller {
         }
     }
 
-    // Whether a line may be written. Else it is counted.
-    fn may_write(&self) -> bool {
-        self.tell_unwritten();
-        if self.has_room() {
-            return true;
+    /// Tells how many lines were not written, where that is any number but 0 and standard error has room.
+    pub fn tell_unwritten(&self) {
+        if self.take_turn() {
+            self.tell_count();
+            self.end_turn();
         }
-        self.note(1);
-        false
+    }
+
+    // Writes in its turn, where there is room. Else the line is counted.
+    fn write<D: Display + Drop>(&self, value: D, as_line: bool) -> io::Result<()> {
+        self.tell_count();
+        if !self.has_room() {
+            self.note(1);
+            return Ok(());
+        }
+        if as_line {
+            self.rt.eprintln(value)
+        } else {
+            self.rt.eprint(value)
+        }
+    }
+
+    // Waits for its turn, and writes.
+    fn tell<D: Display + Drop>(&self, value: D, as_line: bool) -> io::Result<()> {
+        if !self.take_turn() {
+            self.note(1);
+            return Ok(());
+        }
+        let answer = self.write(value, as_line);
+        self.end_turn();
+        answer
     }
 }
 
 /// A line that is counted counts as told.
 impl Eprint for Teller {
     fn eprint<D: Display + Drop>(&self, value: D) -> io::Result<()> {
-        if self.may_write() {
-            return self.rt.eprint(value);
-        }
-        Ok(())
+        self.tell(value, false)
     }
 
     fn eprintln<D: Display + Drop>(&self, value: D) -> io::Result<()> {
-        if self.may_write() {
-            return self.rt.eprintln(value);
-        }
-        Ok(())
+        self.tell(value, true)
     }
 }
 

@@ -5,6 +5,7 @@ ghost use Rattle.cf_conn.specs.{Writes};
 
 use cf_bytes::{Failed, Sink, VecSink};
 use cf_conn::{Duplex, MemoryConn, MemoryEnd, Source};
+use cf_link::Observed;
 use std::alloc::Global;
 use std::marker::Model;
 use std::sync::Arc;
@@ -96,6 +97,10 @@ impl Duplex for PatientConn {
     fn close(self) -> MemoryEnd {
         self.conn.close()
     }
+}
+
+impl Observed for PatientConn {
+    fn ended(&self, _how: u8) {}
 }
 
 // A connection whose peer sends these bytes.
