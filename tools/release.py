@@ -3,9 +3,10 @@
 
     ./dev release    makes .build/release/cf-VERSION-x86_64-linux.tar.gz, and its checksum beside it
 
-It is refused where a file is changed or not committed, where the program isn't proved and built of these sources, where it needs more than the C
-library, or where the documents name another version.
+It is refused where a file is changed or not committed, where the program isn't the one that `./dev build` has proved and built of these sources, where
+it needs more than the C library, or where the documents name another version.
 """
+import contextlib
 import gzip
 import hashlib
 import io
@@ -24,7 +25,7 @@ import texts  # noqa: E402
 from crates import BUILD, PROGRAM, TOP  # noqa: E402
 from manpage import manpage  # noqa: E402
 
-FOLDER = os.path.join(BUILD, "release")
+FOLDER, PROVED = os.path.join(BUILD, "release"), os.path.join(BUILD, "proved")
 # What every system with the GNU C library has.
 SYSTEMS_OWN = ("linux-vdso", "libc.so", "libm.so", "libpthread.so", "libdl.so", "librt.so", "libgcc_s.so", "/lib64/ld-linux", "ld-linux")
 FILES = ("docs/USER.md", "docs/SERVER.md", "LICENSE", "data/blocks.dat", "data/session.txt", "data/watch.txt")
@@ -50,9 +51,23 @@ def why_not():
     """Why no release can be made of this checkout, or nothing."""
     if told("git", "status", "--porcelain"):
         return "a file is changed or not committed: git status shows which"
-    if not crates.is_current():
+    if not crates.is_current() or not kit_of(PROGRAM):
         return "the program isn't proved and built of these sources: ./dev build"
     return why_not_named(texts.version())
+
+
+def note_proved(program):
+    """Notes of a program that was proved and built just now its sum, and the kit by which it was proved."""
+    with open(PROVED, "w", encoding="utf-8") as file:
+        file.write(f"{sum_of(program)} {told('rt', 'version')}\n")
+
+
+def kit_of(program):
+    """The kit by which this very program was proved, or nothing."""
+    with contextlib.suppress(FileNotFoundError), open(PROVED, encoding="utf-8") as file:
+        noted, kit = file.read().strip().split(" ", 1)
+        return " ".join(kit.split()) if noted == sum_of(program) else ""
+    return ""
 
 
 def why_not_named(version):
@@ -86,6 +101,12 @@ def c_library(program):
     return "{}.{}".format(*max((tuple(map(int, it)) for it in found), default=(2, 2)))
 
 
+def section(heading):
+    """A section of README, with what its links go to in their place."""
+    found = re.search(rf"^## {heading}\n(.*?)(?=^## )", read("README.md").decode(), re.MULTILINE | re.DOTALL)
+    return re.sub(r"\[[^\]]*\]\(([^)#]*)[^)]*\)", r"`\1`", found[1]).strip()
+
+
 def proved_page(program, commit, day, kit):
     """The page that says what was proved, by what, and how it is proved again."""
     version = texts.version()
@@ -96,30 +117,39 @@ def proved_page(program, commit, day, kit):
 | Version | {version} |
 | Day | {day} |
 | Commit | {commit} |
-| SHA-256 of `cf` | {hashlib.sha256(read_of(program)).hexdigest()} |
+| Proved by | {kit} |
+| SHA-256 of `cf` | {sum_of(program)} |
 | Needs | Linux on {platform.machine()}, the GNU C library {c_library(program)} or later |
 
-**One honest peer makes the history true, whatever the others send.** When `sync` ends with status 0, it has written exactly what a plain scan of every block of the honest peer's chain gives. The premises are in `README.md` and `docs/THEOREM.md` of the commit, the clauses in `docs/promises/`, what is only tested in `docs/TESTS.md`.
+`sha256sum -c SHA256SUMS` checks the files of this folder. Files below `docs/` and `crates/` are those of the commit.
 
-Each function of the program is safe and meets its contract, by the prover of this kit:
+## If a peer lies
 
-    {kit.replace(chr(10), chr(10) + '    ')}
+{section("If a peer lies")}
 
-To prove it again, with that kit's `rt` on the path:
+## What you have to trust
+
+{section("What you have to trust")}
+
+## To prove it again
+
+With `rt` of the same kit on the path, in a clone of the repository:
 
     git checkout {commit}
     ./dev build
     .build/cf --version
 
 `./dev build` proves each of the program's crates, and links the program only then. `.ci/run` also tries wrong bodies, which the prover must refuse, and runs the tests.
-
-Trusted are the toolchain, the C library, the system, and that the definitions say what you mean.
 """
 
 
 def read_of(path):
     with open(path, "rb") as file:
         return file.read()
+
+
+def sum_of(path):
+    return hashlib.sha256(read_of(path)).hexdigest()
 
 
 # The archive
@@ -171,4 +201,4 @@ def make():
     if shown != texts.version():
         raise NotMade(f"the program says that it is {shown}")
     return write(PROGRAM, told("git", "rev-parse", "HEAD"), told("git", "show", "-s", "--format=%cs"), int(told("git", "show", "-s", "--format=%ct")),
-                 told("rt", "version"))
+                 kit_of(PROGRAM))

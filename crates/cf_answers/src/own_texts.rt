@@ -132,7 +132,8 @@ fn topic(asked: &[String]) -> Option<&String>
 // The page of the command of this name, or the help of all.
 fn page(name: &str) -> &'static str
     ensures { result.now ≡ page_named name.now
-        HELP.now SCAN.now FILTER.now REPLAY.now SYNC.now FOLLOW.now SERVE.now ADDRESS.now PROVE.now CHECK.now MAKE.now DEMO.now }
+        HELP.now SCAN.now FILTER.now REPLAY.now SYNC.now FOLLOW.now
+        SERVE.now ADDRESS.now PROVE.now CHECK.now MAKE.now DEMO.now }
 {
     if name == "scan" {
         SCAN
@@ -164,7 +165,8 @@ fn page(name: &str) -> &'static str
 // The page that a word asks for, or the help of all.
 fn page_for(word: Option<&String>) -> &'static str
     ensures { result.now ≡ page_for (option_map (λ w. string_bytes w.now) word.entry)
-        HELP.now SCAN.now FILTER.now REPLAY.now SYNC.now FOLLOW.now SERVE.now ADDRESS.now PROVE.now CHECK.now MAKE.now DEMO.now }
+        HELP.now SCAN.now FILTER.now REPLAY.now SYNC.now FOLLOW.now
+        SERVE.now ADDRESS.now PROVE.now CHECK.now MAKE.now DEMO.now }
 {
     match word {
         Some(name) => page(name.as_str()),
@@ -178,7 +180,8 @@ pub fn own_text(words: &[String]) -> Option<&'static str>
     ensures help { list_any (λ w. is_help_word (string_bytes w)) (drop 1 words.now) ≡ true
         → option_map (λ text. text.now) result ≡ Some (page_for
         (option_map (λ w. string_bytes w) (find (λ w. not (is_help_word (string_bytes w))) (drop 1 words.now)))
-        HELP.now SCAN.now FILTER.now REPLAY.now SYNC.now FOLLOW.now SERVE.now ADDRESS.now PROVE.now CHECK.now MAKE.now DEMO.now) }
+        HELP.now SCAN.now FILTER.now REPLAY.now SYNC.now FOLLOW.now
+        SERVE.now ADDRESS.now PROVE.now CHECK.now MAKE.now DEMO.now) }
     ensures version { list_any (λ w. is_help_word (string_bytes w)) (drop 1 words.now) ≡ false
         → list_any (λ w. is_version_word (string_bytes w)) (drop 1 words.now) ≡ true
         → option_map (λ text. text.now) result ≡ Some VERSION.now }

@@ -273,12 +273,12 @@ DESCRIPTION
     says which chain.
 
 EXAMPLE
-    $ cf demo 7 3
-    blocks 3
+    $ cf demo 7 500
+    blocks 500
     peers 3
-    entries 2
-    balance 0
-    fetched 2
+    entries 126
+    balance 312000000000
+    fetched 116
     closed 2
-    tip 0687f29f13ea02af647ed385493e4f3db218b245f4fa87c9ab143b283203b206
+    tip 679103639f3cfecc66abf2a372afeef9a7c7f0277515a23126d18a2b06a7bbfb
 ";
