@@ -14,16 +14,13 @@ use Rattle.cf_dispute.specs.declared.claim.Claim.{Claim}
 use Rattle.cf_dispute.specs.declared.rows.Row.{Row}
 use Rattle.cf_dispute.specs.declared.rows.Look.{Look}
 use Rattle.cf_dispute.specs.Claims.{Table, Claims, IsAt, claim_of, with_claim}
-use Rattle.cf_dispute.specs.Rows.{has, RowsByName, IsTable, IsClaimed, IsRow, IsRowOf, IsMade, IsLook, seen_of, seen_at, tables_by}
+use Rattle.cf_dispute.specs.Rows.{has, RowsByName, IsTable, IsClaimed, IsRow, IsRowOf, HasNone, IsOfBlock, IsMade, IsLook, no_look, seen_of, seen_at, tables_by}
 use Rattle.cf_dispute.proofs.PutIn.{same_true, same_from}
 use Rattle.cf_dispute.proofs.RowLaws.{block_same, looked_start, looked_on, looked_none, at_start, no_row, row_claims, claim_row, by_places, off_same}
 
 -- the claim that is made of a hash
 pub made_claim : (hash header before : Hash32) → header.0 ≡ filter_header_of hash.0 before.0 → record { hash = hash; header = header } ≡ claim_of hash before
 made_claim hash header before e = ap (λ (x : List ℕ). let c : Claim = record { hash = hash; header = record { 0 = x } } in c) e
-
-abbrev pub no_look : Look
-no_look = record { found = None; is_in = false; differ = false }
 
 pub look_start : (rows : RowsByName) (names : Names) (p : ℕ) (block : Hash32) (claim : Claim) (r : List (Hash32 × ℕ)) → IsTable rows names
     → ((n : ℕ) → n < 2 ^ 32 → is_found names block n → Contains r (block, n)) → IsLook rows p block claim no_look r
@@ -32,6 +29,8 @@ look_start rows names p block claim r t complete = record {
   out = λ off. looked_start rows names p block r t complete;
   agreed = λ off n row is eb. inr (at_start rows names block r t complete n row is eb);
   differs = λ on. absurd (cc on);
+  bare = λ e. at_start rows names block r t complete;
+  of_block = tt;
 }
 
 same_row : (rows : RowsByName) (x : Hash32 × ℕ) (n : ℕ) (a b : Row) → rows x.1 ≡ Some a → (b.block, n) ≡ x → rows n ≡ Some b → b ≡ a
@@ -52,6 +51,11 @@ look_skip rows p block claim look x rest miss l = record {
     ]
   ];
   differs = l.differs;
+  bare = λ none n row is eb. elim (in_rest x (row.block, n) rest (l.bare none n row is eb)) [
+    | inr later ↦ later
+    | inl it ↦ absurd (miss row (ap rows (sym (ap (λ (q : Hash32 × ℕ). q.1) it)) ∙ is) eb)
+  ];
+  of_block = l.of_block;
 }
 
 or_none : (a b : Bool) → (a || b) ≡ false → (a ≡ false) × (b ≡ false)
@@ -98,6 +102,8 @@ look_row rows names p block before hash look x rest row t here eb l = record {
         ]
       ];
   differs = by (same row.claim.hash.0 hash.0) refl;
+  bare = λ none. absurd (cc none);
+  of_block = (row, (here, block_same row.block block eb));
 }
   where
     by : (h : Bool) → same row.claim.hash.0 hash.0 ≡ h → (if h then look.differ else true) ≡ true → (other : Hash32) × (((n : ℕ) × IsRowOf rows block.0 other n) × (other ≢ hash))
@@ -124,6 +130,14 @@ look_out rows p block claim look l off = looked_none rows p block.0 (l.out off)
 -- the row that was found
 pub look_found : (rows : RowsByName) (p : ℕ) (block : Hash32) (claim : Claim) (look : Look) (f : ℕ × Hash32) → IsLook rows p block claim look [] → look.found ≡ Some f → IsRow rows block claim f.0 × (f.1 ≡ claim.header)
 look_found rows p block claim look f l e = subst (λ (o : Option (ℕ × Hash32)). MatchOption o (Unit {0}) (λ g. IsRow rows block claim g.0 × (g.1 ≡ claim.header))) e l.found
+
+-- a row of the block, or that there is none
+pub look_other : (rows : RowsByName) (p : ℕ) (block : Hash32) (claim : Claim) (look : Look) → IsLook rows p block claim look []
+    → MatchOption look.row (HasNone rows block) (IsOfBlock rows block)
+look_other rows p block claim look l = by look.row refl where
+  by : (o : Option ℕ) → look.row ≡ o → MatchOption o (HasNone rows block) (IsOfBlock rows block)
+  by None e = λ n row is eb. none_left (row.block, n) (l.bare e n row is (ap (λ (x : Hash32). x.0) eb))
+  by (Some n) e = subst (λ (o : Option ℕ). MatchOption o (Unit {0}) (IsOfBlock rows block)) e l.of_block
 
 -- ---- once the claim is put
 

@@ -75,6 +75,9 @@ pub fn first_exposed(
     ensures none { result ≡ None → (block : List ℕ) → IsIn block (blocks_of blocks.now) → (filter : List ℕ)
         → IsExposed (tables_of claims.now) (told_in tests.now) p.0 block filter → ⊥ }
 {
+    if tests.is_empty() {
+        return None;
+    }
     for block in blocks {
         if let Some(exposure) = exposed_at(claims, tests, p, block) {
             return Some(exposure);

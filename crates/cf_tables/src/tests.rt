@@ -1,7 +1,7 @@
 //! What was found of filters that were tested.
 #![tactic(auto, unfolding(crate::specs::Tests::told_in))]
 
-ghost use Rattle.std.specs.Prelude.{◌≡◌, ℕ, List, None, is_some, OnOk, OnErr};
+ghost use Rattle.std.specs.Prelude.{◌≡◌, ℕ, List, None, true, is_some, OnOk, OnErr};
 ghost use Rattle.cf_tables.specs.Tests.{IsSameTold, found_too as is_found_too, set_test, told_in, with_test};
 
 use crate::judged::Judging;
@@ -23,6 +23,13 @@ impl Tests {
         Tests {
             map: BTreeMap::new(alloc),
         }
+    }
+
+    /// Whether no test is kept.
+    pub fn is_empty(&self) -> bool
+        ensures { result ≡ true → (block filter : List ℕ) → told_in self.now block filter ≡ None }
+    {
+        self.map.is_empty()
     }
 
     /// What was found of a filter, if it was tested.

@@ -3,7 +3,7 @@ use Rattle.slab.specs.Slab.{get}
 use Rattle.cf_dispute.specs.declared.rows.Row.{Row}
 use Rattle.cf_dispute.specs.Claims.{claim_of}
 use Rattle.cf_dispute.specs.Rows.{Sets, tables_by}
-use Rattle.cf_dispute.proofs.Looks.{look_out, look_found}
+use Rattle.cf_dispute.proofs.Looks.{look_out, look_found, look_other}
 use Rattle.cf_dispute.proofs.RowLaws.{joined_table, joined_sets, set_tables, set_others, put_elsewhere}
 use Rattle.cf_dispute.proofs.rows.Rows.put_by.Goals as goal
 
@@ -19,7 +19,7 @@ returns-in-Some c =
     refl refl joined.1.0.here joined.1.0.others joined.1.1.1 in
     let table = joined_table (get c.args.self.now.rows) (get c.join.new.self.rows) c.args.self.now.names c.join.new.self.names c.args.p c.in-Some.n c.args.block.now row next c.requires.table found.1.0 found.1.1.0 joined.1.1.0 joined.1.1.1
     refl refl refl joined.1.0.here joined.1.0.others
-    (look_out (get c.args.self.now.rows) c.args.p c.args.block.now (claim_of c.args.hash.now c.args.before.now) c.args.look c.requires.look c.if-look.false) c.requires.low c.join.ensures.names in
+    (look_out (get c.args.self.now.rows) c.args.p c.args.block.now (claim_of c.args.hash.now c.args.before.now) c.args.look c.requires.look c.if-look.false) c.requires.low (λ on. on) c.join.ensures.names in
     record {
       table = table;
       header = look.1;
@@ -33,3 +33,6 @@ returns-in-Some c =
 
 pub put_hash-requires-clause-new : goal.put_hash-requires-clause-new
 put_hash-requires-clause-new c = look_out (get c.args.self.now.rows) c.args.p c.args.block.now (claim_of c.args.hash.now c.args.before.now) c.args.look c.requires.look c.if-look.false
+
+pub put_hash-requires-clause-other : goal.put_hash-requires-clause-other
+put_hash-requires-clause-other c = look_other (get c.args.self.now.rows) c.args.p c.args.block.now (claim_of c.args.hash.now c.args.before.now) c.args.look c.requires.look

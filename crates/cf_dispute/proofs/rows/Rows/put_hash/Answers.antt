@@ -1,9 +1,9 @@
-use Rattle.std.proofs.Common.{◌∙◌, ap}
+use Rattle.std.proofs.Common.{ℕ, List, ◌∙◌, ap}
 use Rattle.cf_dispute.specs.declared.claim.Claim.{Claim}
 use Rattle.cf_dispute.specs.Claims.{with_claim}
 use Rattle.cf_dispute.specs.Rows.{tables_by}
 use Rattle.cf_dispute.proofs.Looks.{made_claim}
-use Rattle.cf_dispute.proofs.RowLaws.{set_tables, set_others, same_tables, put_elsewhere}
+use Rattle.cf_dispute.proofs.RowLaws.{alike_tables, set_tables, set_others, put_elsewhere}
 use Rattle.cf_dispute.proofs.rows.Rows.put_hash.Goals as goal
 
 pub put-requires-clause-made : goal.put-requires-clause-made
@@ -11,7 +11,8 @@ put-requires-clause-made c = made_claim c.args.hash.now c.filter_header.result c
 
 pub returns-in_err-put-clause-rest : goal.returns-in_err-put-clause-rest
 returns-in_err-put-clause-rest c =
-    let same = same_tables c.args.self.now.rows.slots c.put.new.self.rows.slots c.put.new.self.names c.put.ensures.table c.in_err-put.ensures.err in
+    let same = λ (q : ℕ) (b : List ℕ).
+    alike_tables c.args.self.now.rows.slots c.put.new.self.rows.slots c.put.new.self.names q b c.put.ensures.table (c.in_err-put.ensures.err q b) in
     record { elsewhere = λ b off. same c.args.p b; others = λ q ne b. same q b }
 
 pub returns-clause-header : goal.returns-clause-header
