@@ -35,18 +35,18 @@ ends_stay {made} status recorded names now ends not = record {
 }
 
 -- a copy of them
-copied_of : (log : Option Log) (counts : Chains → ℕ → Type 0) (rule : Rule) (names : List (List ℕ)) (o : Outcome) (put : List PeerEnd)
-    → put ≡ o.ends.items → IfSome log (IsOutcome counts rule names o) → AreEndsOf log put
-copied_of None counts rule names o put e is = tt
-copied_of (Some l) counts rule names o put e is = subst (λ (xs : List PeerEnd). EndsTell xs l) (sym e) is.ends
+copied_of : (log : Option Log) (counts : Chains → ℕ → Type 0) (rule : Rule) (wanted : Bool) (names : List (List ℕ)) (o : Outcome) (put : List PeerEnd)
+    → put ≡ o.ends.items → IfSome log (IsOutcome counts rule wanted names o) → AreEndsOf log put
+copied_of None counts rule wanted names o put e is = tt
+copied_of (Some l) counts rule wanted names o put e is = subst (λ (xs : List PeerEnd). EndsTell xs l) (sym e) is.ends
 
 -- which are those of a run that was made
-pub copied : (now : Told) (counts : Chains → ℕ → Type 0) (rule : Rule) (names : List (String Global)) {turns : ℕ} (o : Outcome) (put : List PeerEnd)
-    → put ≡ o.ends.items → IfSome now.log (IsOutcome counts rule (names_in names) o) → now.finished ≡ true
+pub copied : (now : Told) (counts : Chains → ℕ → Type 0) (rule : Rule) (wanted : Bool) (names : List (String Global)) {turns : ℕ} (o : Outcome) (put : List PeerEnd)
+    → put ≡ o.ends.items → IfSome now.log (IsOutcome counts rule wanted (names_in names) o) → now.finished ≡ true
     → EndsWithin o.end (length names) turns now.tally → AreEndsBy (length (names_in names)) now put
-copied now counts rule names o put e is finished within = record {
+copied now counts rule wanted names o put e is finished within = record {
   whole = record { dialled = all_dialled names within; finished = finished };
-  tell = copied_of now.log counts rule (names_in names) o put e is;
+  tell = copied_of now.log counts rule wanted (names_in names) o put e is;
 }
 
 -- once it was begun, whatever becomes of its record

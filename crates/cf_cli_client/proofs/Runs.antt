@@ -14,7 +14,7 @@ use Rattle.cf_run.specs.declared.trace.TraceLine.{TraceLine}
 use Rattle.cf_place.specs.declared.place.PeerEnd.{PeerEnd}
 use Rattle.cf_place.specs.Standing.{EndsTell}
 use Rattle.cf_run.specs.declared.outcome.Outcome.{Outcome}
-use Rattle.cf_run.specs.Run.{IsEnd}
+use Rattle.cf_run.specs.Run.{IsEnd, kept_lines}
 use Rattle.cf_run.specs.Texts.{IsOver}
 use Rattle.cf_run.specs.Whole.{EndsWithin, IsOutcome}
 use Rattle.cf_peer.specs.Asking.{is_open, is_idle, request}
@@ -113,21 +113,27 @@ over_by_end HasNoPeers names turns log tally why within busy = absurd (busy_not_
 over_by_end IsTired names turns log tally why within busy = inl (within.tired refl)
 over_by_end HasEnded names turns log tally why within busy = inr (within.ended refl)
 
-pub was_over : (counts : Chains → ℕ → Type 0) (rule : Rule) (called : List (List ℕ)) (o : Outcome) (names turns : ℕ) (t : Told)
-    → IfSome t.log (IsOutcome counts rule called o) → EndsWithin o.end names turns t.tally → WasOver turns t
-was_over counts rule called o names turns t is within = by t.log is where
-  by : (l : Option Log) → IfSome l (IsOutcome counts rule called o) → IfSome l (λ log. IsBusy log → IsOver turns t.tally)
+pub was_over : (counts : Chains → ℕ → Type 0) (rule : Rule) (wanted : Bool) (called : List (List ℕ)) (o : Outcome) (names turns : ℕ) (t : Told)
+    → IfSome t.log (IsOutcome counts rule wanted called o) → EndsWithin o.end names turns t.tally → WasOver turns t
+was_over counts rule wanted called o names turns t is within = by t.log is where
+  by : (l : Option Log) → IfSome l (IsOutcome counts rule wanted called o) → IfSome l (λ log. IsBusy log → IsOver turns t.tally)
   by None outcome = tt
   by (Some log) outcome = over_by_end o.end names turns log t.tally outcome.followed.why within
 
 -- what is put together of a run tells how it went
-abbrev pub followed_by : (counts : Chains → ℕ → Type 0) (rule : Rule) (names : List (List ℕ)) (o : Outcome) (log : Log)
-    → IsOutcome counts rule names o log → RanBy rule names log
-followed_by counts rule names o log is =
-    record { end = o.end; height = o.height; tip = o.tip; entries = o.history; lines = o.trace.items; followed = is.followed }
+abbrev pub followed_by : (counts : Chains → ℕ → Type 0) (rule : Rule) (wanted : Bool) (names : List (List ℕ)) (o : Outcome) (log : Log)
+    → IsOutcome counts rule wanted names o log → RanBy rule names log
+followed_by counts rule wanted names o log is =
+    record { end = o.end; height = o.height; tip = o.tip; entries = o.history; lines = is.lines; followed = is.followed }
+
+-- the text of a run has the lines that are wanted, whether or not the others are kept
+same_text : (trace : Bool) (kept lines : List TraceLine) (end : End) (entries : List Entry) (height : ℕ) (tip : Hash32) → kept ≡ kept_lines trace lines
+    → run_text trace kept end entries height tip ≡ run_text trace lines end entries height tip
+same_text true kept lines end entries height tip same = ap (λ (xs : List TraceLine). run_text true xs end entries height tip) same
+same_text false kept lines end entries height tip same = refl
 
 kept_of : (counts : Chains → ℕ → Type 0) (watch names : List (List ℕ)) (o : Outcome) (status : Status) (recorded trace : Bool) (before after : Option (List ℕ)) (log : Log)
-    → IsOutcome counts (once watch) names o log → SyncTheorem watch o.height o.tip o.history log
+    → IsOutcome counts (once watch) trace names o log → SyncTheorem watch o.height o.tip o.history log
     → IsAnswerOf o.end status before after (run_text trace o.trace.items o.end o.history o.height o.tip)
     → AnswerTellsEnds status log → KeptOnce status recorded trace watch names before after log
 kept_of counts watch names o status recorded trace before after log is theorem answer stands =
@@ -146,7 +152,12 @@ kept_of counts watch names o status recorded trace before after log is theorem a
           completes o.end status recorded before after text answer somebody;
       never = λ p blocks serves. theorem.never p blocks serves.apart serves.honest;
       right = (is.followed.asked.bytes, is.followed.asked.rightly);
-      ran = λ made. record { run = followed_by counts (once watch) names o log is; answered = answer; stands = stands };
+      ran = λ made. record {
+        run = followed_by counts (once watch) trace names o log is;
+        answered = subst (IsAnswerOf o.end status before after)
+            (same_text trace o.trace.items is.lines o.end o.history o.height o.tip is.kept) answer;
+        stands = stands;
+      };
       unrecorded = λ same. absurd (subst (λ (s : Status). IsAnswerOf o.end s before after text) same answer);
     }
 
@@ -166,7 +177,7 @@ kept_without (Some log) watch names recorded trace before after right = record {
 
 -- where the record can't be written: the run followed the rules, and an honest peer was not closed
 pub unrecorded_told : (log : Option Log) (counts : Chains → ℕ → Type 0) (watch names : List (List ℕ)) (o : Outcome) (recorded trace : Bool) (before after : Option (List ℕ)) → recorded ≡ true
-    → IfSome log (IsOutcome counts (once watch) names o) → IfSome log (λ l. SyncTheorem watch o.height o.tip o.history l)
+    → IfSome log (IsOutcome counts (once watch) trace names o) → IfSome log (λ l. SyncTheorem watch o.height o.tip o.history l)
     → IfSome log (λ l. KeptOnce FileFault recorded trace watch names before after l)
 unrecorded_told None counts watch names o recorded trace before after on is theorem = tt
 unrecorded_told (Some log) counts watch names o recorded trace before after on is theorem = record {
@@ -176,7 +187,7 @@ unrecorded_told (Some log) counts watch names o recorded trace before after on i
   never = λ p blocks serves. theorem.never p blocks serves.apart serves.honest;
   right = (is.followed.asked.bytes, is.followed.asked.rightly);
   ran = λ made. cc;
-  unrecorded = λ same. inr (followed_by counts (once watch) names o log is);
+  unrecorded = λ same. inr (followed_by counts (once watch) trace names o log is);
 }
 
 -- how the peers stand that the answer tells of
@@ -192,7 +203,7 @@ stands_unsaid log = λ told no. cc
 
 -- the run came to its end, and its text was written, or the sink has failed
 pub kept_told : (log : Option Log) (counts : Chains → ℕ → Type 0) (watch names : List (List ℕ)) (o : Outcome) (status : Status) (recorded trace : Bool) (before after : Option (List ℕ))
-    → IfSome log (IsOutcome counts (once watch) names o) → IfSome log (λ l. SyncTheorem watch o.height o.tip o.history l)
+    → IfSome log (IsOutcome counts (once watch) trace names o) → IfSome log (λ l. SyncTheorem watch o.height o.tip o.history l)
     → IsAnswerOf o.end status before after (run_text trace o.trace.items o.end o.history o.height o.tip)
     → ((l : Log) → EndsTell o.ends.items l → AnswerTellsEnds status l)
     → IfSome log (λ l. KeptOnce status recorded trace watch names before after l)

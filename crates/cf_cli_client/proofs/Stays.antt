@@ -14,7 +14,7 @@ use Rattle.cf_run.specs.declared.outcome.End.TheVariants.{Synced as IsSynced, No
 use Rattle.cf_run.specs.declared.trace.TraceLine.{TraceLine}
 use Rattle.cf_run.specs.declared.outcome.Outcome.{Outcome}
 use Rattle.cf_run.specs.Names.{names_in}
-use Rattle.cf_run.specs.Run.{WasRun}
+use Rattle.cf_run.specs.Run.{WasRun, kept_lines}
 use Rattle.cf_run.specs.Whole.{EndsWithin, GivesUp, IsOutcome, LeavesWires}
 use Rattle.cf_run.specs.Texts.{HasBegun, HasPut, HasPutBut, HasPutSo, HasPutSome, IsOver, joined}
 use Rattle.cf_run.specs.declared.texts.TextFail.{TextFail}
@@ -266,35 +266,42 @@ over_given (Some log) status scripts names before after old new over same = reco
   tells = inl same;
 }
 
+-- behind the trace stand the lines that are wanted, whether or not the others are kept
+same_behind : (trace : Bool) (kept lines : List TraceLine) (bytes : List ℕ) → kept ≡ kept_lines trace lines → with_trace trace kept bytes ≡ with_trace trace lines bytes
+same_behind true kept lines bytes same = ap (λ (xs : List TraceLine). with_trace true xs bytes) same
+same_behind false kept lines bytes same = refl
+
 -- all its texts were written, by what takes them
 pub stayed_told : (log : Option Log) (counts : Chains → ℕ → Type 0) (scripts names : List (List ℕ)) (o : Outcome) (status : Status) (recorded trace : Bool) (first told before after : Option (List ℕ))
-    → IfSome log (IsOutcome counts (following scripts) names o) → IfSome log (λ l. FollowTheorem scripts o.height o.tip o.history l)
+    → IfSome log (IsOutcome counts (following scripts) trace names o) → IfSome log (λ l. FollowTheorem scripts o.height o.tip o.history l)
     → AnswersTo o.end o.ends.items status → IfSome log (λ l. HasPut scripts l first told)
     → ((texts : List (List ℕ)) → told ≡ with_more first (joined texts) → after ≡ with_more before (with_trace trace o.trace.items (joined texts)))
     → IfSome log (λ l. KeptOn status recorded trace scripts names before after l)
 stayed_told None counts scripts names o status recorded trace first told before after is theorem answered put write = tt
 stayed_told (Some log) counts scripts names o status recorded trace first told before after is theorem answered put write =
     stayed_kept status recorded trace scripts names before after log (record {
-      run = followed_by counts (following scripts) names o log is;
+      run = followed_by counts (following scripts) trace names o log is;
       ends = o.ends.items;
       stands = is.ends;
       answered = answered;
       texts = put.texts;
       puts = put.puts;
-      written = write put.texts put.taken;
+      written = subst (λ (t : List ℕ). after ≡ with_more before t) (same_behind trace o.trace.items is.lines (joined put.texts) is.kept)
+          (write put.texts put.taken);
     }) theorem
 
 -- it is over, but the sink has failed: what was written of it
 pub cut_told : (log : Option Log) (counts : Chains → ℕ → Type 0) (scripts names : List (List ℕ)) (o : Outcome) (trace : Bool) (first told before after : Option (List ℕ))
-    → IfSome log (IsOutcome counts (following scripts) names o) → IfSome log (λ l. HasPut scripts l first told)
+    → IfSome log (IsOutcome counts (following scripts) trace names o) → IfSome log (λ l. HasPut scripts l first told)
     → ((texts : List (List ℕ)) → told ≡ with_more first (joined texts) → HasBegun (with_trace trace o.trace.items (joined texts)) before after)
     → IfSome log (λ l. CutShort trace scripts names before after l)
 cut_told None counts scripts names o trace first told before after is put begin = tt
 cut_told (Some log) counts scripts names o trace first told before after is put begin = record {
-  run = followed_by counts (following scripts) names o log is;
+  run = followed_by counts (following scripts) trace names o log is;
   texts = put.texts;
   puts = put.puts;
-  begun = begin put.texts put.taken;
+  begun = subst (λ (t : List ℕ). HasBegun t before after) (same_behind trace o.trace.items is.lines (joined put.texts) is.kept)
+      (begin put.texts put.taken);
 }
 
 -- and what holds of it

@@ -125,7 +125,7 @@ ends_told {was = was} {now = now} end ends status recorded names t told by = put
 pub once_told : {W : Type 0} {told : W → Told} {faults : W → ℕ} {script : W → Option Made} {keeps : W → Bool} {greeting : Greeting} {turns : ℕ} {from to : W}
     {before after : Option (List ℕ)} {was now : List PeerEnd}
     → (counts : Chains → ℕ → Type 0) (watch : List (List ℕ)) (names : List (String Global)) (o : Outcome) (status : Status) (recorded trace : Bool) (first : Told)
-    → IfSome (told to).log (IsOutcome counts (once watch) (names_in names) o) → IfSome (told to).log (λ log. SyncTheorem watch o.height o.tip o.history log)
+    → IfSome (told to).log (IsOutcome counts (once watch) trace (names_in names) o) → IfSome (told to).log (λ log. SyncTheorem watch o.height o.tip o.history log)
     → IfSome (told to).log (λ log. AreBytes log × RightlyIn Once log) → EndsWithin o.end (length names) turns (told to).tally
     → LeavesWires told faults script keeps greeting (names_in names) turns from to
     → IsTold status recorded o.end o.ends.items (run_text trace o.trace.items o.end o.history o.height o.tip) before after was now
@@ -146,7 +146,7 @@ once_told {told = told} {turns = turns} {to = to} {before = before} {after = aft
       (spent_tallied NoMemory first refl tt wires)
       (λ on. spent_tallied FileFault first refl tt wires)
       so.said;
-  over = λ enough. was_over counts (once watch) (names_in names) o _ turns (told to) outcome within;
+  over = λ enough. was_over counts (once watch) trace (names_in names) o _ turns (told to) outcome within;
 }
 
 -- memory was wanting in it
@@ -183,7 +183,7 @@ once_unbegun watch names turns recorded trace before t fresh = record {
 pub tape_told : {W : Type 0} {told : W → Told} {faults : W → ℕ} {script : W → Option Made} {keeps : W → Bool} {greeting : Greeting} {turns : ℕ} {from to : W}
     {before after : Option (List ℕ)} {was now : List PeerEnd} {old kept bytes : List ℕ}
     → (counts : Chains → ℕ → Type 0) (watch : List (List ℕ)) (names : List (String Global)) (o : Outcome) (status : Status) (trace : Bool) (first : Told)
-    → IfSome (told to).log (IsOutcome counts (following watch) (names_in names) o) → IfSome (told to).log (λ log. FollowTheorem watch o.height o.tip o.history log)
+    → IfSome (told to).log (IsOutcome counts (following watch) trace (names_in names) o) → IfSome (told to).log (λ log. FollowTheorem watch o.height o.tip o.history log)
     → IfSome (told to).log (λ log. AreBytes log × RightlyIn Following log) → EndsWithin o.end (length names) turns (told to).tally
     → (o.end ≡ IsSynced → IsOver turns (told to).tally) → LeavesWires told faults script keeps greeting (names_in names) turns from to
     → IfSome (told to).log (λ log. HasPut watch log (Some old) (Some kept)) → IfSome (told to).log (λ log. HasPutSome watch log (Some old) (Some kept)) → old ≡ [] → bytes ≡ kept

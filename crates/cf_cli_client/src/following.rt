@@ -50,7 +50,7 @@ fn follow_live<W: Wires, H: HeaderStore + Drop, M: Matcher + Drop, O: Sink>(
 {
     let mut texts = Live::new(out);
     match follow_over(
-        alloc, wires, names, watch, store, matcher, moment, nonce, turns, &mut texts,
+        alloc, wires, names, watch, store, matcher, moment, nonce, turns, false, &mut texts,
     ) {
         Ok(outcome) => {
             let Ok(stands) = ends_of(alloc, &outcome) else {
@@ -208,7 +208,7 @@ pub fn follow_on_tape<W: Wires, M: Matcher + Drop, O: Sink>(
     };
     let mut texts = KeptTexts::new(alloc);
     match follow_over(
-        alloc, wires, names, watch, store, matcher, moment, nonce, turns, &mut texts,
+        alloc, wires, names, watch, store, matcher, moment, nonce, turns, trace, &mut texts,
     ) {
         Ok(outcome) => tell_texts(alloc, outcome, trace, texts.bytes(), out, ends),
         Err(_) => Status::NoMemory,

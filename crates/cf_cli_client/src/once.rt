@@ -96,7 +96,7 @@ pub fn run_once<F: Files, W: Wires, M: Matcher + Drop, O: Sink>(
     };
     keep_where(wires, log_file);
     match sync_over(
-        alloc, wires, names, watch, store, matcher, moment, nonce, turns,
+        alloc, wires, names, watch, store, matcher, moment, nonce, turns, trace,
     ) {
         Ok(outcome) => tell(alloc, files, wires, log_file, outcome, trace, out, ends),
         Err(_) => Status::NoMemory,

@@ -84,13 +84,13 @@ run_in f = record { bytes = f.asked.bytes; rightly = f.asked.rightly; numbered =
 
 -- what is said of a run that was answered
 pub has_run : (r : Result Outcome NoMemory) (counts : Chains → ℕ → Type 0) (watch : List (List ℕ)) (peers : List Peer) (names : List (String Global)) (log : Log)
-    → IfOk r (λ o. IsOutcome counts (once watch) (names_in names) o log) → IfOk r (λ o. SyncTheorem watch o.height o.tip o.history log)
+    → IfOk r (λ o. IsOutcome counts (once watch) true (names_in names) o log) → IfOk r (λ o. SyncTheorem watch o.height o.tip o.history log)
     → OnOk r ((i : ℕ) (peer : Peer) → slice_get peers i ≡ Some peer → peer.way ≡ Honest → i < length names → NoHashClash (IsHashed log peer.blocks) → IsHonest log (suc i) peer.blocks)
     → Accounts log peers → IfOk r (λ o. EndsWithin o.end (length names) most_deliveries (tally_of log)) → IfOk r (λ o. HasRunOver watch peers (names_in names) o log)
 has_run (Ok o) counts watch peers names log is theorem honest accounts within =
     let count : length (names_in names) ≡ length names = length-map names string_bytes in
     record {
-      followed = is.followed;
+      followed = subst (λ (lines : List TraceLine). RanTo (once watch) o.end o.height o.tip o.history lines (names_in names) log) (sym is.kept) is.followed;
       stand = is.ends;
       theorem = theorem;
       honest = λ i peer at way few clash. honest i peer at way (omega (arith, few, count)) clash;

@@ -35,7 +35,7 @@ pub fn sync_played<H: HeaderStore + Drop, M: Matcher + Drop>(
     requires few { length names.now ≤ 8 }
     requires empty { (q : ℕ) → H.chain store q ≡ None }
     ensures outcome { IfOk result
-        (λ o. IsOutcome H.counts (once watch) (names_in names.now) o (log_of played.new)) }
+        (λ o. IsOutcome H.counts (once watch) true (names_in names.now) o (log_of played.new)) }
     ensures versions { IsOfGreeting (record { moment = moment; number = nonce }) (log_of played.new) }
     ensures theorem { IfOk result (λ o. SyncTheorem watch o.height o.tip o.history (log_of played.new)) }
     ensures honest { OnOk result ((i : ℕ) (peer : Peer)
@@ -51,7 +51,7 @@ pub fn sync_played<H: HeaderStore + Drop, M: Matcher + Drop>(
     // The peers' chains are good.
     played.same_peers();
     let outcome = sync_over(
-        alloc, played, names, watch, store, matcher, moment, nonce, turns,
+        alloc, played, names, watch, store, matcher, moment, nonce, turns, true,
     );
     // What was delivered and what waits is what each peer answers, and the peers are those that were there before.
     played.accounts();

@@ -15,6 +15,7 @@ use Rattle.cf_wires.specs.declared.event.Dial.{Dial}
 use Rattle.cf_wires.specs.declared.event.Event.{Event}
 use Rattle.cf_wires.specs.declared.event.Event.TheVariants.{Dialled, NotDialled, Took}
 use Rattle.cf_run.specs.declared.progress.Progress.{Progress}
+use Rattle.cf_run.specs.declared.trace.Trace.{Trace}
 use Rattle.cf_wires.specs.Log.{Log, Told, Tally, Tells, tell, longer, dials}
 use Rattle.cf_wires.specs.Wires.{Made}
 use Rattle.cf_run.specs.Run.{Course, NoFailure, HasFailed, is_failure, HasNames, names_of}
@@ -94,6 +95,7 @@ runs_self a step = record {
   keeps = refl;
   finished = refl;
   step = step;
+  wanted = refl;
 }
 
 pub runs_then : {a b c : RunState} → Runs a b → Runs b c → Runs a c
@@ -102,6 +104,7 @@ runs_then {a = a} {b = b} {c = c} one two = record {
   keeps = two.keeps ∙ one.keeps;
   finished = two.finished ∙ one.finished;
   step = two.step;
+  wanted = two.wanted ∙ one.wanted;
 }
 
 pub counts_self : (t : Told) → SameCounts t t
@@ -127,14 +130,15 @@ performs_then {a = a} {b = b} {c = c} one two = record {
 }
 
 -- the run's notes change alone
-pub noted_performs : (told : Told) (faults : ℕ) (script : Option Made) (keeps : Bool) (before after : Progress) → after.closed ≡ before.closed → trouble after < trouble before → IsInStep told before
+pub noted_performs : (told : Told) (faults : ℕ) (script : Option Made) (keeps : Bool) (before after : Progress) → after.closed ≡ before.closed → after.trace ≡ before.trace → trouble after < trouble before → IsInStep told before
     → Performs (run_state told faults script keeps before) (run_state told faults script keeps after)
-noted_performs told faults script keeps before after closed fewer step = record {
+noted_performs told faults script keeps before after closed trace fewer step = record {
   runs = record {
     course = record { later = omega arith; blamed = λ clean. inl clean; logged = λ is. is; script = refl };
     keeps = refl;
     finished = refl;
     step = step ∙ sym closed;
+    wanted = ap (λ (x : Trace). x.wanted) trace;
   };
   counts = counts_self told;
   fewer = omega (arith, fewer);
@@ -149,6 +153,7 @@ runs_by e a b course told keeps closed same step = record {
   keeps = keeps;
   finished = ap (λ (t : Told). t.finished) told;
   step = ap (λ (t : Told). t.tally.closed) told ∙ closed ∙ step ∙ sym (ap (λ (x : Progress). x.closed) same);
+  wanted = ap (λ (x : Progress). x.trace.wanted) same;
 }
 
 pub told_runs : (e : Event) (a b : RunState) → is_failure e ≡ false → b.told ≡ tell e a.told → a.faults ≤ b.faults → b.script ≡ a.script → b.keeps ≡ a.keeps
@@ -169,6 +174,7 @@ quiet_runs a b told later script keeps same step = record {
   keeps = keeps;
   finished = ap (λ (t : Told). t.finished) told;
   step = ap (λ (t : Told). t.tally.closed) told ∙ step ∙ sym (ap (λ (x : Progress). x.closed) same);
+  wanted = ap (λ (x : Progress). x.trace.wanted) same;
 }
 
 -- an entry that dials nobody

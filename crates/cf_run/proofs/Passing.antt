@@ -1,9 +1,10 @@
 -- What a dial leaves of the client, and what a whole run leaves of its wires, put together.
 use Rattle.std.proofs.Common.{◌≡◌, inl, ℕ, ℤ, ◌+◌, ◌<◌, ◌≤◌, Bool, List, [], ◌∷◌, ◌++◌, Option, refl, sym, ◌∙◌, ap, subst, arith}
 use Rattle.std.specs.List.{All}
-use Rattle.std.specs.Prelude.{IsSome}
+use Rattle.std.specs.Prelude.{IfSome, IsSome}
 use Rattle.cf_bytes.specs.Outside.{HasRisen}
 use Rattle.cf_bytes.specs.declared.peer.PeerNo.{PeerNo}
+use Rattle.cf_headers.specs.Store.{Chains}
 use Rattle.cf_headers.specs.declared.store.HeaderStore.{Ghosts}
 use Rattle.cf_match.specs.declared.matcher.Matcher.{Ghosts as Judges}
 use Rattle.cf_peer.specs.declared.act.Act.{Act}
@@ -14,15 +15,16 @@ use Rattle.cf_wires.specs.Log.{Log, Told, Tally, Tells, tell, told_finished}
 use Rattle.cf_wires.specs.Wires.{Made}
 use Rattle.cf_client.specs.declared.client.Client.{Client}
 use Rattle.cf_run.specs.declared.outcome.End.{End}
+use Rattle.cf_run.specs.declared.outcome.Outcome.{Outcome}
 use Rattle.cf_run.specs.declared.progress.Progress.{Progress}
 use Rattle.cf_run.specs.Passing.{Passes}
 use Rattle.cf_place.specs.Standing.{Greeting}
 use Rattle.cf_client.specs.Stands.{Answers, Reflects, rule_by, greeting_by}
-use Rattle.cf_sync.specs.Fetching.{MayTake}
+use Rattle.cf_sync.specs.Fetching.{MayTake, Rule}
 use Rattle.cf_run.specs.Run.{AreBytesOf, Course, HasDialled, HasNames, NoFailure}
 use Rattle.cf_run.specs.States.{Doing, HoldsOver, IsUnused, RunState, Runs, Performs, Dials, IsInStep, Stopped, EndsTurns, TakesTurns, run_at}
 use Rattle.cf_run.specs.Versions.{HasGreeting, KeepsGreeting}
-use Rattle.cf_run.specs.Whole.{AreNewWires, EndsWithin, LeavesWires}
+use Rattle.cf_run.specs.Whole.{AreNewWires, EndsWithin, IsOutcome, LeavesWires}
 use Rattle.cf_run.proofs.Courses.{course_on, told_runs, failed_runs, failures_blamed, dialled_one, missed_one, dials_then, dials_alone}
 use Rattle.cf_run.proofs.Dialling.{none_dialled, none_named, dialled_on}
 use Rattle.cf_run.proofs.Turns.{dial_doing, doing_rule, no_peers, starts, took_doing}
@@ -207,3 +209,10 @@ ends_within {end = end} {c = c} {progress = progress} {called = called} {t = t} 
       ended = ends.ended;
       early = ends.early;
     })
+
+-- what came of a run, by the rule that its client goes by, and by what is wanted of its trace
+pub outcome_by : (counts : Chains → ℕ → Type 0) (called : List (List ℕ)) (o : Outcome) (log : Option Log) {r s : Rule} {a b : Bool} → r ≡ s → a ≡ b
+    → IfSome log (IsOutcome counts r a called o) → IfSome log (IsOutcome counts s b called o)
+outcome_by counts called o log {r = r} {b = b} rule wanted is =
+    subst (λ (x : Rule). IfSome log (IsOutcome counts x b called o)) rule
+    (subst (λ (x : Bool). IfSome log (IsOutcome counts r x called o)) wanted is)

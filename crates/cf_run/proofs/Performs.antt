@@ -1,8 +1,7 @@
 -- How the planned log and the actual one go on when acts are done.
-use Rattle.std.proofs.Common.{◌≡◌, ◌≢◌, inl, inr, ℕ, suc, ◌+◌, ◌<◌, ◌≤◌, List, [], ◌∷◌, ◌++◌, length, get_or, set, drop, reverse, add-one, Option, Some, None, Bool, true, false, refl, sym, ◌∙◌, ap, subst, arith, Vec}
+use Rattle.std.proofs.Common.{◌≡◌, ◌≢◌, inl, inr, ℕ, suc, ◌+◌, ◌<◌, ◌≤◌, List, [], ◌∷◌, ◌++◌, length, get_or, set, drop, reverse, add-one, Option, Some, None, Bool, true, false, refl, sym, ◌∙◌, ap, subst, arith, if◌then◌else◌}
 use Rattle.std.specs.Prelude.{◌||◌, ◌==◌, IfSome}
 use Rattle.std.specs.List.{list_any}
-use Rattle.std.specs.declared.alloc.Global.{Global}
 use Rattle.std.proofs.lemmas.Bool.{cases_eq, cases_Bool, cases_lt, both_ways, false≢true}
 use Rattle.std.proofs.lemmas.List.{reverse-append, get_or-set_same, get_or-set_other}
 use Rattle.std.proofs.Math.Seq.{drop-cons}
@@ -42,13 +41,14 @@ use Rattle.cf_client.specs.declared.client.Client.{Client}
 use Rattle.cf_run.specs.declared.progress.Progress.{Progress}
 use Rattle.cf_run.specs.declared.progress.SendState.{SendState}
 use Rattle.cf_run.specs.declared.progress.SendState.TheVariants.{Fine, Pending, Known}
+use Rattle.cf_run.specs.declared.trace.Trace.{Trace}
 use Rattle.cf_run.specs.declared.trace.TraceLine.{TraceLine}
 use Rattle.cf_run.specs.declared.trace.TraceLine.TheVariants.{Sent as SentLine, Closed as ClosedLine}
 use Rattle.cf_place.specs.Places.{entry_of, MayAct, CutFor}
 use Rattle.cf_place.specs.Standing.{IsNamed, IsRepliedIn}
 use Rattle.cf_client.specs.Stands.{Reflects, count_of, rule_by}
-use Rattle.cf_run.specs.Run.{IsTicked, IsTraceOf}
-use Rattle.cf_run.specs.States.{Doing, ActsLeft, HoldsOver, closes, state_at, is_pending, is_fine}
+use Rattle.cf_run.specs.Run.{IsTicked, IsTraceOf, kept_lines}
+use Rattle.cf_run.specs.States.{Doing, ActsLeft, HasTrace, HoldsOver, closes, state_at, is_pending, is_fine}
 use Rattle.cf_sync.proofs.SameFetched.{same_wanted}
 use Rattle.cf_holds.proofs.TableGrows.{same_holds}
 use Rattle.cf_client.proofs.Spelled.{spelled_bytes}
@@ -211,6 +211,24 @@ skipped_close acts progress called planned t p cause is may doing =
 reverse_push : (xs : List TraceLine) (x : TraceLine) → reverse (xs ++ x ∷ []) ≡ x ∷ reverse xs
 reverse_push xs x = reverse-append xs (x ∷ [])
 
+-- the lines that are kept, with one more
+kept_more : (wanted : Bool) (items lines : List TraceLine) (line : TraceLine) → items ≡ kept_lines wanted lines
+    → (if wanted then items ++ line ∷ [] else items) ≡ kept_lines wanted (lines ++ line ∷ [])
+kept_more true items lines line kept = ap (λ (xs : List TraceLine). xs ++ line ∷ []) kept
+kept_more false items lines line kept = kept
+
+-- a line was pushed
+traced_more : (log later : Log) (line : TraceLine) (before after : Trace)
+    → after.lines.items ≡ (if before.wanted then before.lines.items ++ line ∷ [] else before.lines.items) → after.wanted ≡ before.wanted
+    → ((lines : List TraceLine) → IsTraceOf log lines → IsTraceOf later (line ∷ lines)) → HasTrace before log → HasTrace after later
+traced_more log later line before after pushed same more has = (
+  has.0 ++ line ∷ [],
+  (
+    subst (IsTraceOf later) (sym (reverse_push has.0 line)) (more (reverse has.0) has.1.0),
+    pushed ∙ kept_more before.wanted before.lines.items has.0 line has.1.1 ∙ ap (λ (b : Bool). kept_lines b (has.0 ++ line ∷ [])) (sym same),
+  ),
+)
+
 -- what is sent may be, by the log as it is
 pub sent_rightly : {rule : Rule} (acts : List Act) (progress : Progress) (called : List (List ℕ)) (planned : Log) (t : Told) (p : PeerNo)
     (m : Msg) → is_pending (state_at progress.sends p.0) ≡ false → MayAct rule (Send p m) planned
@@ -232,11 +250,13 @@ sent_rightly {rule = rule} acts progress called planned t p m free may doing =
     )
 
 -- a message is sent
-pub sent_on : {rule : Rule} (acts : List Act) (progress : Progress) (trace : Vec TraceLine Global) (called : List (List ℕ)) (planned : Log) (t : Told) (p : PeerNo) (m : Msg) (command : List ℕ)
-    → is_pending (state_at progress.sends p.0) ≡ false → trace.items ≡ progress.trace.items ++ SentLine p command ∷ [] → command ≡ command_of m
+pub sent_on : {rule : Rule} (acts : List Act) (progress : Progress) (trace : Trace) (called : List (List ℕ)) (planned : Log) (t : Told) (p : PeerNo) (m : Msg) (command : List ℕ)
+    → is_pending (state_at progress.sends p.0) ≡ false
+    → trace.lines.items ≡ (if progress.trace.wanted then progress.trace.lines.items ++ SentLine p command ∷ [] else progress.trace.lines.items)
+    → trace.wanted ≡ progress.trace.wanted → command ≡ command_of m
     → MayAct rule (Send p m) planned
     → Doing rule (Send p m ∷ acts) progress called planned t → Doing rule acts (record progress { trace = trace }) called (Sent p (bytes_of m) ∷ planned) (tell (Sent p (bytes_of m)) t)
-sent_on {rule = rule} acts progress trace called planned t p m command free line is may doing =
+sent_on {rule = rule} acts progress trace called planned t p m command free line stays is may doing =
     let bytes = bytes_of m in
     let spells : spelled bytes ≡ Some m = spelled_bytes m may.1 in
     let on : is_connected (trail planned p.0) ≡ true = asked_on rule.mode (trail planned p.0) m may.2.of_its_part in
@@ -254,8 +274,8 @@ sent_on {rule = rule} acts progress trace called planned t p m command free line
         asked_out = doing.notes.asked_out;
         numbered = doing.notes.numbered;
         first = doing.notes.first;
-        traced = subst (λ (lines : List TraceLine). IsTraceOf (Sent p bytes ∷ doing.actual) lines) (sym (ap reverse line ∙ reverse_push progress.trace.items (SentLine p command)))
-            ((refl, (m, spells, is)), doing.notes.traced);
+        traced = traced_more doing.actual (Sent p bytes ∷ doing.actual) (SentLine p command) progress.trace trace line stays
+            (λ lines of_log. ((refl, (m, spells, is)), of_log)) doing.notes.traced;
         named = doing.notes.named;
         off = λ q not_it. sent_connected p bytes q (part_of doing.actual q) ∙ doing.notes.off q not_it;
         shut = λ q it. let s = doing.notes.shut q it in (sent_connected p bytes q (part_of doing.actual q) ∙ s.0, s.1);
@@ -290,12 +310,14 @@ sent_on {rule = rule} acts progress trace called planned t p m command free line
     }
 
 -- a peer is closed
-pub closed_on : {rule : Rule} (acts : List Act) (progress : Progress) (trace : Vec TraceLine Global) (called : List (List ℕ)) (planned : Log) (t : Told) (p : PeerNo) (cause : Cause)
-    → is_pending (state_at progress.sends p.0) ≡ false → trace.items ≡ progress.trace.items ++ ClosedLine p cause ∷ []
+pub closed_on : {rule : Rule} (acts : List Act) (progress : Progress) (trace : Trace) (called : List (List ℕ)) (planned : Log) (t : Told) (p : PeerNo) (cause : Cause)
+    → is_pending (state_at progress.sends p.0) ≡ false
+    → trace.lines.items ≡ (if progress.trace.wanted then progress.trace.lines.items ++ ClosedLine p cause ∷ [] else progress.trace.lines.items)
+    → trace.wanted ≡ progress.trace.wanted
     → MayAct rule (Close p cause) planned
     → Doing rule (Close p cause ∷ acts) progress called planned t
     → Doing rule acts (record progress { closed = set progress.closed p.0 true; trace = trace }) called (Closed p ∷ planned) (tell (Closed p) t)
-closed_on acts progress trace called planned t p cause free line may doing =
+closed_on acts progress trace called planned t p cause free line stays may doing =
     let deserves : DeservesIn doing.actual p.0 cause = elim (cases_Bool (is_untold doing.actual p.0)) [
       | inl untold ↦ deserved_in_off planned doing.actual p.0 cause (doing.known p.0 untold free).0 (doing.broken p.0 untold).1 may.1
       | inr told ↦ deserved_in planned doing.actual p.0 cause (doing.plan.told p.0 told) doing.brought doing.plan.tested may.1
@@ -324,8 +346,8 @@ closed_on acts progress trace called planned t p cause free line may doing =
         asked_out = doing.notes.asked_out;
         numbered = doing.notes.numbered;
         first = doing.notes.first;
-        traced = subst (λ (lines : List TraceLine). IsTraceOf (Closed p ∷ doing.actual) lines) (sym (ap reverse line ∙ reverse_push progress.trace.items (ClosedLine p cause)))
-            ((refl, deserves, is_named), doing.notes.traced);
+        traced = traced_more doing.actual (Closed p ∷ doing.actual) (ClosedLine p cause) progress.trace trace line stays
+            (λ lines of_log. ((refl, deserves, is_named), of_log)) doing.notes.traced;
         named = doing.notes.named;
         off = λ q not_it. lost_off (p.0 == q) mark.Closed (part_of doing.actual q) (doing.notes.off q not_it);
         shut = λ q it. elim (cases_eq q p.0) [

@@ -1,6 +1,8 @@
 -- What is put of the texts of a run that follows, from moment to moment.
-use Rattle.std.proofs.Common.{◌≡◌, ◌⊎◌, inl, inr, ℕ, ◌≤◌, Bool, List, [], ◌∷◌, ◌++◌, length, take, String, string_bytes, Option, Some, None, Ok, Err, refl, sym, ◌∙◌, ap, subst, arith, if◌then◌else◌}
-use Rattle.std.specs.Prelude.{IfSome}
+use Rattle.std.proofs.Common.{◌≡◌, ◌⊎◌, inl, inr, ℕ, ◌≤◌, Bool, true, false, List, [], ◌∷◌, ◌++◌, length, take, String, string_bytes, Option, Some, None, Ok, Err, refl, sym, ◌∙◌, ap, subst, arith, if◌then◌else◌}
+use Rattle.std.specs.Prelude.{IfNone, IfSome}
+use Rattle.std.specs.Bool.{Decides}
+use Rattle.std.proofs.lemmas.Slice.Eq.{bytes_eq-Decides}
 use Rattle.std.specs.declared.alloc.Global.{Global}
 use Rattle.std.proofs.lemmas.Bool.{both_ways}
 use Rattle.std.proofs.lemmas.Option.{IfSome_then}
@@ -21,7 +23,9 @@ use Rattle.cf_wires.specs.declared.event.Delivery.TheVariants.{Ended}
 use Rattle.cf_wires.specs.declared.event.Event.TheVariants.{Took}
 use Rattle.cf_wires.specs.Log.{Log, Told, Tells, tell, told_finished}
 use Rattle.cf_sync.specs.Fetching.{AreBytes, IsAskedOutIn, MayTake, RightlyIn, Rule, following}
-use Rattle.cf_sync.specs.Putting.{IsAtRest, PutsAt, WerePut, ArePut, put}
+use Rattle.cf_tracker.specs.declared.tracker.Report.{Report}
+use Rattle.cf_run.specs.declared.shown.Shown.{Shown}
+use Rattle.cf_sync.specs.Putting.{IsAtRest, EndsWith, PutsAt, WerePut, ArePut, put}
 use Rattle.cf_client.specs.declared.client.Client.{Client}
 use Rattle.cf_client.specs.Stands.{Reflects, IsReportOf, rule_by, watch_by}
 use Rattle.cf_run.specs.declared.progress.Progress.{Progress}
@@ -29,7 +33,7 @@ use Rattle.cf_run.specs.declared.texts.TextFail.{TextFail}
 use Rattle.cf_run.specs.declared.texts.TextFail.TheVariants.{NoMemory, Failed}
 use Rattle.cf_run.specs.Run.{WasRun}
 use Rattle.cf_run.specs.States.{HoldsOver}
-use Rattle.cf_run.specs.Texts.{AllPut, ButPut, CountsTexts, HasBegun, HasPut, HasPutBut, HasPutSo, HavePut, IsLast, PutBefore, PutBy, PutsBegun, PutsNext, PutsOne, PutsSome, SoPut, SomePut, joined}
+use Rattle.cf_run.specs.Texts.{AllPut, ButPut, CountsTexts, HasBegun, HasPut, HasPutBut, HasPutSo, HavePut, IsLast, IsSameTold, last_text, PutBefore, PutBy, PutsBegun, PutsNext, PutsOne, PutsSome, SoPut, SomePut, joined}
 use Rattle.cf_run.specs.Whole.{GivesUp, IsShort}
 use Rattle.cf_run.proofs.Courses.{puts_taken}
 use Rattle.cf_run.proofs.Turns.{ended_holds, mode_same, rule_same, told_so, was_run}
@@ -76,6 +80,24 @@ not_put text before last now same is = record {
   newest = subst (IsLast last) (sym same) is;
   taken = λ first old. subst (λ (texts : List (List ℕ)). now ≡ with_more first (joined texts)) (sym same) old;
 }
+
+-- the last text tells the same
+same_text : (a b : Report) → IsSameTold a b → history_text a.history a.height a.tip.0 ≡ history_text b.history b.height b.tip.0
+same_text a b same =
+    ap (λ (entries : List Entry). history_text entries a.height a.tip.0) same.history
+    ∙ ap (λ (height : ℕ). history_text b.history height a.tip.0) same.height ∙ ap (λ (tip : List ℕ). history_text b.history b.height tip) same.tip
+
+put_again : (text : List ℕ) (before : List (List ℕ)) → EndsWith text before → put text before ≡ before
+put_again text before ends = subst (λ (b : List (List ℕ)). put text b ≡ b) (sym ends.1)
+    (ap (λ (same : Bool). if same then text ∷ ends.0 else text ∷ text ∷ ends.0) ((bytes_eq-Decides text text).1 refl))
+
+pub told_again : (last : Option Shown) (report : Report) (before : List (List ℕ)) (told : Bool) → told ≡ true
+    → IfSome last (λ shown. Decides told (IsSameTold shown.report report)) → IfNone last (told ≡ false) → IsLast (last_text last) before
+    → put (history_text report.history report.height report.tip.0) before ≡ before
+told_again None report before told is some none last = absurd (both_ways told none is)
+told_again (Some shown) report before told is some none last =
+    let text : string_bytes shown.text ≡ history_text report.history report.height report.tip.0 = shown.tells ∙ same_text shown.report report (some.0 is) in
+    subst (λ (t : List ℕ). put t before ≡ before) text (put_again (string_bytes shown.text) before last)
 
 pub one_put : (text : List ℕ) (before : List (List ℕ)) (s : String Global) (old new : Option (List ℕ)) → put text before ≡ text ∷ before → string_bytes s ≡ text
     → new ≡ with_more old text → PutsOne text before (Some s) old new

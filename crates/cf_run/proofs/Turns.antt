@@ -1,5 +1,5 @@
 -- How what holds of a client and its wires goes on from turn to turn.
-use Rattle.std.proofs.Common.{◌≡◌, ◌≢◌, ◌⊎◌, inl, inr, ℕ, zero, suc, ◌+◌, ◌<◌, ◌≤◌, List, [], ◌∷◌, ◌++◌, length, map, take, get_or, String, string_bytes, set, replicate, reverse, Option, Some, None, Bool, true, false, refl, sym, ◌∙◌, ap, subst, arith, if◌then◌else◌}
+use Rattle.std.proofs.Common.{◌≡◌, ◌≢◌, ◌⊎◌, inl, inr, ℕ, zero, suc, ◌+◌, ◌<◌, ◌≤◌, List, [], ◌∷◌, ◌++◌, length, map, take, get_or, String, string_bytes, set, replicate, Option, Some, None, Bool, true, false, refl, sym, ◌∙◌, ap, subst, arith, if◌then◌else◌}
 use Rattle.std.specs.Prelude.{◌↔◌, ◌==◌, ◌&&◌, ◌||◌, not, IfSome}
 use Rattle.std.proofs.lemmas.Grind.{common_steps}
 use Rattle.std.proofs.lemmas.Bool.{cases_eq, cases_Bool, cases_lt, both_ways, false≢true}
@@ -29,11 +29,10 @@ use Rattle.cf_run.specs.declared.outcome.End.TheVariants.{Synced, NoPeers, Tired
 use Rattle.cf_run.specs.declared.progress.Progress.{Progress}
 use Rattle.cf_run.specs.declared.progress.SendState.{SendState}
 use Rattle.cf_run.specs.declared.progress.SendState.TheVariants.{Fine}
-use Rattle.cf_run.specs.declared.trace.TraceLine.{TraceLine}
 use Rattle.cf_run.specs.Names.{names_in}
 use Rattle.cf_hear.proofs.Tracking.{tracks_ended}
 use Rattle.cf_client.specs.Stands.{Reflects, IsReportOf, seen_by, rule_by, greeting_by}
-use Rattle.cf_run.specs.Run.{IsOrderly, WasOrderly, AreNumbered, IsUntaken, IsTicked, WereAskedOut, WerePinged, WasRun, RanTo, AreBytesOf, IsEnd, IsTraceOf, names_of, is_lost, NobodyLeft}
+use Rattle.cf_run.specs.Run.{IsOrderly, WasOrderly, AreNumbered, IsUntaken, IsTicked, WereAskedOut, WerePinged, WasRun, RanTo, AreBytesOf, IsEnd, kept_lines, names_of, is_lost, NobodyLeft}
 use Rattle.cf_run.specs.States.{IsUnused, Notes, Doing, HoldsOver, Stopped, state_at, is_pending, is_fine}
 use Rattle.cf_client.specs.Blameless.{AreAskedOut}
 use Rattle.cf_peer.specs.declared.act.Act.{Act}
@@ -414,7 +413,7 @@ was_run c progress called t holds = record {
 -- what a run that stopped has done
 pub finishes : {H M : Type 0} {g : Ghosts H} {j : Judges M} (end : End) (c : Client H M g j) (progress : Progress) (called : List (List ℕ)) (t : Told) (height : ℕ) (hash : Hash32) (entries : List Entry)
     (stopped : Stopped end c progress called t) → IsReportOf (rule_by c) height hash entries stopped.holds.actual
-    → RanTo (rule_by c) end height hash entries progress.trace.items called stopped.holds.actual
+    → RanTo (rule_by c) end height hash entries stopped.holds.notes.traced.0 called stopped.holds.actual
 finishes end c progress called t height hash entries stopped report =
     let holds = stopped.holds in
     let asked : HasAskedIn (rule_by c).mode (rule_by c).watch height hash entries holds.actual = record {
@@ -432,7 +431,7 @@ finishes end c progress called t height hash entries stopped report =
           (rightly_following (rule_by c).mode holds.actual holds.notes.rightly) clash report.told.best
           (λ p on. (report.asked_out p on (quiet p)).tested);
       run = was_run c progress called t holds;
-      traced = holds.notes.traced;
+      traced = holds.notes.traced.1.0;
       why = stopped.why;
     }
 
@@ -583,6 +582,11 @@ open_all zero q = refl
 open_all (suc k) zero = refl
 open_all (suc k) (suc q) = open_all k q
 
+-- of no line none is kept
+none_kept : (wanted : Bool) → kept_lines wanted [] ≡ []
+none_kept true = refl
+none_kept false = refl
+
 -- nothing has passed
 pub starts : {H M : Type 0} {g : Ghosts H} {j : Judges M} (c : Client H M g j) (progress : Progress) (t : Told) → Reflects c [] → IsUnused progress
     → Tells [] t → HoldsOver c progress [] t
@@ -601,7 +605,7 @@ starts c progress t reflects unused tells =
         asked_out = tt;
         numbered = tt;
         first = tt;
-        traced = subst (λ (xs : List TraceLine). IsTraceOf [] (reverse xs)) (sym unused.trace) tt;
+        traced = ([], (tt, unused.trace ∙ sym (none_kept progress.trace.wanted)));
         named = refl;
         off = λ q not_it. refl;
         shut = λ q it. (refl, refl);

@@ -6,6 +6,6 @@ pub mod Passing
 pub mod Texts
 pub mod Whole
 pub use Rattle.cf_run.specs.Names.{names_in}
-pub use Rattle.cf_run.specs.Run.{HasDialled, HasFailed}
+pub use Rattle.cf_run.specs.Run.{HasDialled, HasFailed, kept_lines}
 pub use Rattle.cf_run.specs.Versions.{HasGreeting, IsOfGreeting}
 pub use Rattle.cf_run.specs.Whole.{AreNewWires, EndsWithin, IsOutcome, LeavesWires}

@@ -103,6 +103,11 @@ IsTraceOf (Closed p ∷ log) [] = ⊥
 IsTraceOf (Closed p ∷ log) (line ∷ lines) = IsClosedLine log p line × IsTraceOf log lines
 IsTraceOf (_ ∷ log) lines = IsTraceOf log lines
 
+-- the lines that are kept of these: all of them where they are wanted, and else none
+abbrev pub kept_lines : Bool → List TraceLine → List TraceLine
+kept_lines true lines = lines
+kept_lines false lines = []
+
 -- the names that were dialled, in order
 abbrev pub names_of : Log → List (List ℕ)
 names_of log = map (λ (d : Dial). d.name) (dials log)

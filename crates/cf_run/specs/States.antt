@@ -19,12 +19,14 @@ use Rattle.cf_client.specs.declared.client.Client.{Client}
 use Rattle.cf_run.specs.declared.outcome.End.{End}
 use Rattle.cf_run.specs.declared.outcome.End.TheVariants.{Synced, NoPeers, Tired, Ended as EndedFirst}
 use Rattle.cf_run.specs.declared.progress.Progress.{Progress}
+use Rattle.cf_run.specs.declared.trace.Trace.{Trace}
+use Rattle.cf_run.specs.declared.trace.TraceLine.{TraceLine}
 use Rattle.cf_run.specs.declared.progress.SendState.{SendState}
 use Rattle.cf_run.specs.declared.progress.SendState.TheVariants.{Fine, Pending, Known}
 use Rattle.cf_place.specs.Places.{after, Allowed}
 use Rattle.cf_client.specs.Stands.{Reflects, rule_by}
 use Rattle.cf_run.specs.Texts.{PutBefore, PutBy}
-use Rattle.cf_run.specs.Run.{WasOrderly, AreNumbered, AreDialledFirst, IsTraceOf, names_of, HasNames, IsTicked, WereAskedOut, WerePinged, Course, IsEnd}
+use Rattle.cf_run.specs.Run.{WasOrderly, AreNumbered, AreDialledFirst, IsTraceOf, kept_lines, names_of, HasNames, IsTicked, WereAskedOut, WerePinged, Course, IsEnd}
 
 -- how the sends to a peer have gone
 abbrev pub state_at : List SendState → ℕ → SendState
@@ -56,7 +58,11 @@ trouble progress = sum_by weight progress.sends
 pub record IsUnused (progress : Progress) : Type 0 where
   pub sends : progress.sends ≡ replicate 9 Fine
   pub closed : progress.closed ≡ replicate 9 false
-  pub trace : progress.trace.items ≡ []
+  pub trace : progress.trace.lines.items ≡ []
+
+-- the trace keeps the lines of this log, where they are wanted, and else none
+abbrev pub HasTrace : Trace → Log → Type 0
+HasTrace trace log = (lines : List TraceLine) × (IsTraceOf log (reverse lines) × (trace.lines.items ≡ kept_lines trace.wanted lines))
 
 -- what the run's own notes say of the log as it is
 pub record Notes (rule : Rule) (progress : Progress) (called : List (List ℕ)) (actual : Log) (t : Told) : Type 0 where
@@ -69,7 +75,7 @@ pub record Notes (rule : Rule) (progress : Progress) (called : List (List ℕ)) 
   pub asked_out : WereAskedOut rule actual
   pub numbered : AreNumbered actual
   pub first : AreDialledFirst actual
-  pub traced : IsTraceOf actual (reverse progress.trace.items)
+  pub traced : HasTrace progress.trace actual
   pub named : names_of actual ≡ called
   pub off : (q : ℕ) → is_fine (state_at progress.sends q) ≡ false → is_connected (trail actual q) ≡ false
   pub shut : (q : ℕ) → slice_index_or progress.closed q false ≡ true → (is_connected (trail actual q) ≡ false) × (is_untold actual q ≡ false)
@@ -165,6 +171,7 @@ pub record Runs (a b : RunState) : Type 0 where
   pub keeps : b.keeps ≡ a.keeps
   pub finished : b.told.finished ≡ a.told.finished
   pub step : IsInStep b.told b.progress
+  pub wanted : b.progress.trace.wanted ≡ a.progress.trace.wanted
 
 -- acts were done: no count changed, and no more failures are to be told than before
 pub record Performs (a b : RunState) : Type 0 where

@@ -10,7 +10,9 @@ use Rattle.cf_sync.specs.Fetching.{AreBytes, RightlyIn, following}
 use Rattle.cf_sync.specs.Putting.{WerePut, ArePut, PutsAt, EndsWith, put}
 use Rattle.cf_client.specs.declared.client.Client.{Client}
 use Rattle.cf_client.specs.Stands.{Reflects, watch_by}
+use Rattle.cf_tracker.specs.declared.tracker.Report.{Report}
 use Rattle.cf_run.specs.Run.{WasRun}
+use Rattle.cf_run.specs.declared.shown.Shown.{Shown}
 use Rattle.cf_run.specs.declared.texts.TextFail.{TextFail}
 use Rattle.cf_run.specs.declared.texts.TextFail.TheVariants.{NoMemory, Failed}
 
@@ -65,6 +67,17 @@ PutBy watch texts t = IfSome t.log (λ log. ArePut watch log texts)
 abbrev pub IsLast : Option (String Global) → List (List ℕ) → Type 0
 IsLast None texts = texts ≡ []
 IsLast (Some last) texts = EndsWith (string_bytes last) texts
+
+-- the text that was put last
+abbrev pub last_text : Option Shown → Option (String Global)
+last_text None = None
+last_text (Some shown) = Some shown.text
+
+-- the same height and hash of the tip, and the same history
+pub record IsSameTold (a b : Report) : Type 0 where
+  pub height : a.height ≡ b.height
+  pub tip : a.tip.0 ≡ b.tip.0
+  pub history : a.history ≡ b.history
 
 -- texts that were put so far: those before each delivery, of which this is the last one; and what was taken of them
 pub record HavePut (watch : List (List ℕ)) (last : Option (String Global)) (t : Told) (before now : Option (List ℕ)) : Type 0 where

@@ -4,13 +4,14 @@ use Rattle.cf_bytes.specs.Outside.{HasRisen}
 use Rattle.cf_client.specs.Holding.{HoldsNoMore}
 use Rattle.cf_headers.specs.Store.{Chains}
 use Rattle.cf_place.specs.Standing.{EndsTell, Greeting}
-use Rattle.cf_run.specs.Run.{Course, RanTo, HasDialled, HasFailed, NobodyLeft, WasRun}
+use Rattle.cf_run.specs.Run.{Course, RanTo, kept_lines, HasDialled, HasFailed, NobodyLeft, WasRun}
 use Rattle.cf_run.specs.Texts.{HasPut, HasPutBut, HasPutSo}
 use Rattle.cf_run.specs.Versions.{HasGreeting}
 use Rattle.cf_run.specs.declared.outcome.End.{End}
 use Rattle.cf_run.specs.declared.outcome.End.TheVariants.{NoPeers, Tired, Ended}
 use Rattle.cf_run.specs.declared.outcome.Outcome.{Outcome}
 use Rattle.cf_run.specs.declared.texts.TextFail.{TextFail}
+use Rattle.cf_run.specs.declared.trace.TraceLine.{TraceLine}
 use Rattle.cf_run.specs.declared.texts.TextFail.TheVariants.{NoMemory, Failed}
 use Rattle.cf_sync.specs.Fetching.{Rule, following}
 use Rattle.cf_wires.specs.Log.{Log, Tally, Tells, Told}
@@ -44,9 +45,12 @@ pub record EndsWithin (end : End) (names turns : ℕ) (tally : Tally) : Type 0 w
   pub ended : end ≡ Ended → tally.ended ≡ 1
   pub early : end ≡ Ended → tally.taken < turns
 
--- what a run puts together when it ends: the chain, its history and what was done, how each peer stands, and how much is kept of them
-pub record IsOutcome (counts : Chains → ℕ → Type 0) (rule : Rule) (called : List (List ℕ)) (o : Outcome) (log : Log) : Type 0 where
-  pub followed : RanTo rule o.end o.height o.tip o.history o.trace.items called log
+-- what a run puts together when it ends: the chain, its history and what was done, of which the lines are kept where they are wanted, and else none; how each
+-- peer stands, and how much is kept of them
+pub record IsOutcome (counts : Chains → ℕ → Type 0) (rule : Rule) (wanted : Bool) (called : List (List ℕ)) (o : Outcome) (log : Log) : Type 0 where
+  pub lines : List TraceLine
+  pub followed : RanTo rule o.end o.height o.tip o.history lines called log
+  pub kept : o.trace.items ≡ kept_lines wanted lines
   pub ends : EndsTell o.ends.items log
   pub held : HoldsNoMore counts o.held log
 

@@ -1,13 +1,15 @@
 //! A run that follows: the dials, the deliveries, and the texts of its moments at rest.
-ghost use Rattle.std.specs.Prelude.{◌≡◌, ◌≢◌, ℕ, None, ◌<◌, ◌≤◌, ◌+◌, ◌∷◌, [], List, Option, OnOk, IfOk, IfErr, IfSome, Some, false, length, string_bytes, if◌then◌else◌};
+ghost use Rattle.std.specs.Prelude.{◌≡◌, ◌≢◌, ℕ, None, ◌<◌, ◌≤◌, ◌+◌, ◌∷◌, [], List, Option, OnOk, IfOk, IfErr, IfNone, IfSome, Some, false, length, string_bytes, if◌then◌else◌};
+ghost use Rattle.std.specs.Bool.{Decides};
 ghost use Rattle.cf_client.specs.{Reflects, count_of, rule_by, watch_by, greeting_by};
 ghost use Rattle.cf_peer.specs.declared.mode.Mode.TheVariants.{Following};
 ghost use Rattle.cf_run.specs.Names.{names_in};
 ghost use Rattle.cf_run.specs.Passing.{Passes, StaysRight};
 ghost use Rattle.cf_run.specs.Run.{IsEnd, IsRight};
 ghost use Rattle.cf_run.specs.States.{EndsTurns, HoldsOver, IsInStep, Stopped, TakesTurns, Turned, Turns, run_state, CountsTurn};
-ghost use Rattle.cf_run.specs.Texts.{AllPut, HavePut, IsLast, IsOver, PutBefore, PutsBegun, PutsNext, PutsOne, PutsSome, SomePut, CountsTexts};
+ghost use Rattle.cf_run.specs.Texts.{AllPut, HavePut, IsLast, IsOver, IsSameTold, last_text, PutBefore, PutsBegun, PutsNext, PutsOne, PutsSome, SomePut, CountsTexts};
 ghost use Rattle.cf_run.specs.Whole.{AreNewWires, EndsWithin, GivesUp, IsOutcome, LeavesWires, PutsAll};
+ghost use Rattle.cf_scan.specs.{history_text};
 ghost use Rattle.cf_sync.specs.{following, FollowTheorem, put};
 ghost use Rattle.cf_wires.specs.Log.{Log};
 ghost use Rattle.cf_wires.specs.declared.event.Delivery.TheVariants.{Ended};
@@ -16,6 +18,7 @@ ghost use Rattle.cf_wires.specs.declared.event.Event.TheVariants.{Took};
 use crate::outcome::{End, Outcome};
 use crate::over::{dial_first, last_end, outcome_of, take_next};
 use crate::progress::Progress;
+use crate::shown::Shown;
 use crate::texts::{TextFail, Texts};
 use cf_bytes::NoMemory;
 use cf_client::Client;
@@ -23,29 +26,47 @@ use cf_headers::HeaderStore;
 use cf_match::Matcher;
 use cf_place::State;
 use cf_scan::Watch;
+use cf_tracker::Report;
 use cf_wires::Wires;
 use std::alloc::Global;
 
 // Whether this is the last text that was put.
-fn is_last(last: &Option<String>, text: &str) -> bool
-    ensures { (before : List (List ℕ)) → IsLast last.now before
+fn is_last(last: &Option<Shown>, text: &str) -> bool
+    ensures { (before : List (List ℕ)) → IsLast (last_text last.now) before
         → put text.now before ≡ (if result then before else text.now ∷ before) }
 {
     match last {
-        Some(last) => text == last.as_str(),
+        Some(shown) => text == shown.text.as_str(),
         None => false,
     }
 }
 
-// Puts a text, unless it is the last one that was put.
+// Whether the last text tells the same tip and the same history as a report, whose text is then the same too.
+fn tells(last: &Option<Shown>, report: &Report) -> bool
+    ensures some { IfSome last.now (λ shown. Decides result (IsSameTold shown.report report.now)) }
+    ensures none { IfNone last.now (result ≡ false) }
+{
+    match last {
+        Some(shown) => {
+            shown.report.height == report.height
+                && shown.report.tip == report.tip
+                && shown.report.history.is_same(&report.history)
+        }
+        None => false,
+    }
+}
+
+// Puts the text that tells a report, unless it is the last one that was put.
 fn put_text<T: Texts>(
     texts: &mut T,
-    last: &mut Option<String>,
+    last: &mut Option<Shown>,
     text: String,
+    report: Report,
 ) -> Result<(), TextFail>
-    ensures put { OnOk result ((before : List (List ℕ)) → IsLast last.old before
-        → PutsOne (string_bytes text) before last.new (T.told texts.old) (T.told texts.new)) }
-    ensures begun { IfErr result (λ fail. (before : List (List ℕ)) → IsLast last.old before
+    requires tells { string_bytes text ≡ history_text report.history report.height report.tip.0 }
+    ensures put { OnOk result ((before : List (List ℕ)) → IsLast (last_text last.old) before
+        → PutsOne (string_bytes text) before (last_text last.new) (T.told texts.old) (T.told texts.new)) }
+    ensures begun { IfErr result (λ fail. (before : List (List ℕ)) → IsLast (last_text last.old) before
         → PutsBegun fail (string_bytes text) before (T.told texts.old) (T.told texts.new)) }
     ensures texts { CountsTexts T.faults T.holds result texts.old texts.new }
 {
@@ -53,22 +74,22 @@ fn put_text<T: Texts>(
         return Ok(());
     }
     texts.put(text.as_str())?;
-    *last = Some(text);
+    *last = Some(Shown { text, report });
     Ok(())
 }
 
 // Where nothing is open and a peer is connected, puts the text of the history and the tip, unless it is the last one
-// that was put.
+// that was put. Where they are those that were put last no text is made.
 fn put_at_rest<H: HeaderStore, M: Matcher, T: Texts>(
     alloc: Global,
     client: &mut Client<H, M>,
     texts: &mut T,
-    last: &mut Option<String>,
+    last: &mut Option<Shown>,
 ) -> Result<(), TextFail>
     requires follows { (rule_by client.old).mode ≡ Following }
-    ensures put { OnOk result ((before : List (List ℕ)) → IsLast last.old before
-        → PutsNext client.old before last.new (T.told texts.old) (T.told texts.new)) }
-    ensures put_some { IfErr result (λ fail. (before : List (List ℕ)) → IsLast last.old before
+    ensures put { OnOk result ((before : List (List ℕ)) → IsLast (last_text last.old) before
+        → PutsNext client.old before (last_text last.new) (T.told texts.old) (T.told texts.new)) }
+    ensures put_some { IfErr result (λ fail. (before : List (List ℕ)) → IsLast (last_text last.old) before
         → PutsSome fail client.old before (T.told texts.old) (T.told texts.new)) }
     ensures same { OnOk result (client.new ≡ client.old) }
     ensures texts { CountsTexts T.faults T.holds result texts.old texts.new }
@@ -79,8 +100,11 @@ fn put_at_rest<H: HeaderStore, M: Matcher, T: Texts>(
         State::Synced => {}
     }
     let report = client.report()?;
+    if tells(last, &report) {
+        return Ok(());
+    }
     let text = report.history.text(alloc, report.height, &report.tip)?;
-    put_text(texts, last, text)?;
+    put_text(texts, last, text, report)?;
     Ok(())
 }
 
@@ -103,7 +127,7 @@ fn follow_turn<W: Wires, H: HeaderStore, M: Matcher, T: Texts>(
     client: &mut Client<H, M>,
     progress: &mut Progress,
     texts: &mut T,
-    last: &mut Option<String>,
+    last: &mut Option<Shown>,
 ) -> Result<Option<End>, TextFail>
     requires follows { (rule_by client.old).mode ≡ Following }
     requires step { IsInStep (W.told wires.old) progress.old }
@@ -113,16 +137,16 @@ fn follow_turn<W: Wires, H: HeaderStore, M: Matcher, T: Texts>(
         → Turned end client.new progress.new called (W.told wires.new)) }
     ensures puts { IfOk result (λ end. end ≡ None → (watch called : List (List ℕ)) (first : Option (List ℕ))
         → watch_by client.old ≡ watch → HoldsOver client.old progress.old called (W.told wires.old)
-        → HavePut watch last.old (W.told wires.old) first (T.told texts.old)
-        → HavePut watch last.new (W.told wires.new) first (T.told texts.new)) }
+        → HavePut watch (last_text last.old) (W.told wires.old) first (T.told texts.old)
+        → HavePut watch (last_text last.new) (W.told wires.new) first (T.told texts.new)) }
     ensures all_put { IfOk result (λ end. (e : End) → end ≡ Some e
         → (watch called : List (List ℕ)) (first : Option (List ℕ)) → watch_by client.old ≡ watch
         → HoldsOver client.old progress.old called (W.told wires.old)
-        → HavePut watch last.old (W.told wires.old) first (T.told texts.old)
+        → HavePut watch (last_text last.old) (W.told wires.old) first (T.told texts.old)
         → AllPut watch (W.told wires.new) first (T.told texts.new)) }
     ensures put_some { IfErr result (λ fail. (watch called : List (List ℕ)) (first : Option (List ℕ))
         → watch_by client.old ≡ watch → HoldsOver client.old progress.old called (W.told wires.old)
-        → HavePut watch last.old (W.told wires.old) first (T.told texts.old)
+        → HavePut watch (last_text last.old) (W.told wires.old) first (T.told texts.old)
         → SomePut fail watch called (W.told wires.new) first (T.told texts.new)) }
     ensures stays { (called : List (List ℕ)) → HoldsOver client.old progress.old called (W.told wires.old)
         → StaysRight result client.old (W.told wires.old) (W.told wires.new) }
@@ -219,13 +243,14 @@ fn follow_all<W: Wires, H: HeaderStore + Drop, M: Matcher + Drop, T: Texts>(
     moment: i64,
     nonce: u64,
     turns: u32,
+    trace: bool,
     texts: &mut T,
 ) -> Result<Outcome, TextFail>
     requires wires { AreNewWires (W.told wires.old) }
     requires few { length names.now ≤ 8 }
     requires empty { (q : ℕ) → H.chain store q ≡ None }
     ensures outcome { IfOk result
-        (λ o. IfSome (W.told wires.new).log (IsOutcome H.counts (following watch) (names_in names.now) o)) }
+        (λ o. IfSome (W.told wires.new).log (IsOutcome H.counts (following watch) trace (names_in names.now) o)) }
     ensures within { IfOk result (λ o. EndsWithin o.end (length names.now) turns (W.told wires.new).tally) }
     ensures done { IfOk result (λ o. o.end ≡ End.Synced → IsOver turns (W.told wires.new).tally) }
     ensures passes { Passes W.told W.faults W.script W.keeps (record { moment = moment; number = nonce })
@@ -237,7 +262,7 @@ fn follow_all<W: Wires, H: HeaderStore + Drop, M: Matcher + Drop, T: Texts>(
     ensures same_reference { T.holds texts.new ≡ T.holds texts.old }
 {
     let mut client = follower(alloc, watch, store, matcher, moment, nonce)?;
-    let mut progress = dial_first(alloc, wires, &mut client, names)?;
+    let mut progress = dial_first(alloc, wires, &mut client, names, trace)?;
     let end = follow_turns(alloc, wires, &mut client, &mut progress, turns, texts)?;
     let outcome = outcome_of(&mut client, progress, end)?;
     Ok(outcome)
@@ -249,7 +274,7 @@ fn follow_all<W: Wires, H: HeaderStore + Drop, M: Matcher + Drop, T: Texts>(
 /// that was put. It ends with `Synced` where the turns are taken or the wires give no more with nothing open, and a
 /// peer is connected. The wires are new: nothing has passed them, and they aren't finished. They are finished once,
 /// whatever is answered; and whatever is, what was sent might be sent, and who was closed deserved it. In the store no
-/// peer is entered.
+/// peer is entered. What the run has done is kept line by line where this is wanted, and else no line.
 pub fn follow_over<W: Wires, H: HeaderStore + Drop, M: Matcher + Drop, T: Texts>(
     alloc: Global,
     wires: &mut W,
@@ -260,13 +285,14 @@ pub fn follow_over<W: Wires, H: HeaderStore + Drop, M: Matcher + Drop, T: Texts>
     moment: i64,
     nonce: u64,
     turns: u32,
+    trace: bool,
     texts: &mut T,
 ) -> Result<Outcome, TextFail>
     requires wires { AreNewWires (W.told wires.old) }
     requires few { length names.now ≤ 8 }
     requires empty { (q : ℕ) → H.chain store q ≡ None }
     ensures outcome { IfOk result
-        (λ o. IfSome (W.told wires.new).log (IsOutcome H.counts (following watch) (names_in names.now) o)) }
+        (λ o. IfSome (W.told wires.new).log (IsOutcome H.counts (following watch) trace (names_in names.now) o)) }
     ensures theorem { IfOk result (λ o. IfSome (W.told wires.new).log (λ log.
         FollowTheorem watch o.height o.tip o.history log)) }
     ensures within { IfOk result (λ o. EndsWithin o.end (length names.now) turns (W.told wires.new).tally) }
@@ -280,7 +306,7 @@ pub fn follow_over<W: Wires, H: HeaderStore + Drop, M: Matcher + Drop, T: Texts>
     ensures same_reference { T.holds texts.new ≡ T.holds texts.old }
 {
     let outcome = follow_all(
-        alloc, wires, names, watch, store, matcher, moment, nonce, turns, texts,
+        alloc, wires, names, watch, store, matcher, moment, nonce, turns, trace, texts,
     );
     wires.finish();
     outcome

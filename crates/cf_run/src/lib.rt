@@ -5,6 +5,7 @@ mod follow;
 mod outcome;
 mod over;
 mod progress;
+mod shown;
 mod texts;
 mod trace;
 

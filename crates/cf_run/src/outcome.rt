@@ -29,7 +29,7 @@ pub struct Outcome {
     pub tip: Hash32,
     /// The history of the best chain's blocks that were fetched.
     pub history: History,
-    /// What the run has done, in order.
+    /// What the run has done, in order, where this is wanted; else nothing.
     pub trace: Vec<TraceLine>,
     /// How each peer stands, by its number from 1.
     pub ends: Vec<PeerEnd>,

@@ -460,6 +460,7 @@ pub(crate) fn dial_first<W: Wires, H: HeaderStore, M: Matcher>(
     wires: &mut W,
     client: &mut Client<H, M>,
     names: &[String],
+    trace: bool,
 ) -> Result<Progress, NoMemory>
     requires wires { AreNewWires (W.told wires.old) }
     requires few { length names.now ≤ 8 }
@@ -467,6 +468,7 @@ pub(crate) fn dial_first<W: Wires, H: HeaderStore, M: Matcher>(
     requires next { count_of client.old ≡ 1 }
     ensures holds { IfOk result (λ progress.
         HoldsOver client.new progress (names_in names.now) (W.told wires.new)) }
+    ensures wanted { IfOk result (λ progress. progress.trace.wanted ≡ trace) }
     ensures step { IfOk result (IsInStep (W.told wires.new)) }
     ensures terms { KeepsTerms result client.old client.new }
     ensures dialled { OnOk result ((W.told wires.new).tally.dials ≡ length names.now) }
@@ -478,7 +480,7 @@ pub(crate) fn dial_first<W: Wires, H: HeaderStore, M: Matcher>(
     ensures passes { Passes W.told W.faults W.script W.keeps (greeting_by client.old) (names_in names.now) 0
         wires.old wires.new }
 {
-    let mut progress = Progress::new(alloc);
+    let mut progress = Progress::new(alloc, trace);
     dial_all(alloc, wires, client, &mut progress, names)?;
     Ok(progress)
 }
@@ -535,7 +537,7 @@ pub(crate) fn outcome_of<H: HeaderStore, M: Matcher>(
     ensures end { IfOk result (λ o. o.end ≡ end) }
     ensures outcome { IfOk result (λ o. (called : List (List ℕ)) (t : Told)
         → Stopped end client.old progress called t
-        → IfSome t.log (IsOutcome H.counts (rule_by client.old) called o)) }
+        → IfSome t.log (IsOutcome H.counts (rule_by client.old) progress.trace.wanted called o)) }
 {
     let held = client.held();
     let ends = client.ends()?;
@@ -545,7 +547,7 @@ pub(crate) fn outcome_of<H: HeaderStore, M: Matcher>(
         height: report.height,
         tip: report.tip,
         history: report.history,
-        trace: progress.trace,
+        trace: progress.trace.into_lines(),
         ends,
         held,
     })
@@ -562,19 +564,20 @@ fn sync_all<W: Wires, H: HeaderStore + Drop, M: Matcher + Drop>(
     moment: i64,
     nonce: u64,
     turns: u32,
+    trace: bool,
 ) -> Result<Outcome, NoMemory>
     requires wires { AreNewWires (W.told wires.old) }
     requires few { length names.now ≤ 8 }
     requires empty { (q : ℕ) → H.chain store q ≡ None }
     ensures outcome { IfOk result
-        (λ o. IfSome (W.told wires.new).log (IsOutcome H.counts (once watch) (names_in names.now) o)) }
+        (λ o. IfSome (W.told wires.new).log (IsOutcome H.counts (once watch) trace (names_in names.now) o)) }
     ensures within { IfOk result (λ o. EndsWithin o.end (length names.now) turns (W.told wires.new).tally) }
     ensures right { IsRight Once (W.told wires.new) }
     ensures passes { Passes W.told W.faults W.script W.keeps (record { moment = moment; number = nonce })
         (names_in names.now) turns wires.old wires.new }
 {
     let mut client = Client::new(alloc, watch, store, matcher, moment, nonce)?;
-    let mut progress = dial_first(alloc, wires, &mut client, names)?;
+    let mut progress = dial_first(alloc, wires, &mut client, names, trace)?;
     let end = take_turns(alloc, wires, &mut client, &mut progress, turns)?;
     outcome_of(&mut client, progress, end)
 }
@@ -584,7 +587,7 @@ fn sync_all<W: Wires, H: HeaderStore + Drop, M: Matcher + Drop>(
 /// whose filters the peers differ, or whose filter the matcher doesn't answer with a miss (BIP 157, "Client
 /// Operation"). The wires are new: nothing has passed them, and they aren't finished. They are finished once, whatever
 /// is answered; and whatever is, what was sent might be sent, and who was closed deserved it. In the store no peer is
-/// entered.
+/// entered. What the run has done is kept line by line where this is wanted, and else no line.
 pub fn sync_over<W: Wires, H: HeaderStore + Drop, M: Matcher + Drop>(
     alloc: Global,
     wires: &mut W,
@@ -595,12 +598,13 @@ pub fn sync_over<W: Wires, H: HeaderStore + Drop, M: Matcher + Drop>(
     moment: i64,
     nonce: u64,
     turns: u32,
+    trace: bool,
 ) -> Result<Outcome, NoMemory>
     requires wires { AreNewWires (W.told wires.old) }
     requires few { length names.now ≤ 8 }
     requires empty { (q : ℕ) → H.chain store q ≡ None }
     ensures outcome { IfOk result
-        (λ o. IfSome (W.told wires.new).log (IsOutcome H.counts (once watch) (names_in names.now) o)) }
+        (λ o. IfSome (W.told wires.new).log (IsOutcome H.counts (once watch) trace (names_in names.now) o)) }
     ensures theorem { IfOk result
         (λ o. IfSome (W.told wires.new).log (λ log. SyncTheorem watch o.height o.tip o.history log)) }
     ensures within { IfOk result (λ o. EndsWithin o.end (length names.now) turns (W.told wires.new).tally) }
@@ -609,7 +613,7 @@ pub fn sync_over<W: Wires, H: HeaderStore + Drop, M: Matcher + Drop>(
         (names_in names.now) turns wires.old wires.new }
 {
     let outcome = sync_all(
-        alloc, wires, names, watch, store, matcher, moment, nonce, turns,
+        alloc, wires, names, watch, store, matcher, moment, nonce, turns, trace,
     );
     wires.finish();
     outcome

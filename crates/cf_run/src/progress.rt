@@ -2,7 +2,7 @@
 ghost use Rattle.std.specs.Prelude.{◌≡◌, ℕ, ◌<◌, ◌≤◌, IfSome, IfNone, true, false, length, slice_set, slice_index_or};
 ghost use Rattle.cf_run.specs.States.{IsUnused, state_at, is_pending as pending_at, is_fine, trouble};
 
-use crate::trace::TraceLine;
+use crate::trace::Trace;
 use cf_bytes::{PLACES, PeerNo};
 use std::alloc::Global;
 
@@ -22,18 +22,19 @@ pub enum SendState {
 pub struct Progress {
     pub(crate) sends: [SendState; PLACES],
     pub(crate) closed: [bool; PLACES],
-    pub(crate) trace: Vec<TraceLine>,
+    pub(crate) trace: Trace,
 }
 
 impl Progress {
-    /// Nothing has passed.
-    pub(crate) fn new(alloc: Global) -> Progress
-        ensures { IsUnused result }
+    /// Nothing has passed. The lines of the trace are kept where they are wanted.
+    pub(crate) fn new(alloc: Global, trace: bool) -> Progress
+        ensures unused { IsUnused result }
+        ensures wanted { result.trace.wanted ≡ trace }
     {
         Progress {
             sends: [SendState::Fine; PLACES],
             closed: [false; PLACES],
-            trace: Vec::new(alloc),
+            trace: Trace::new(alloc, trace),
         }
     }
 
@@ -60,6 +61,7 @@ impl Progress {
             → self.new ≡ record self.old { sends = slice_set self.old.sends p.0 SendState.Pending } }
         ensures fewer { trouble self.new ≤ trouble self.old }
         ensures closed { self.new.closed ≡ self.old.closed }
+        ensures trace { self.new.trace ≡ self.old.trace }
     {
         if self.sends[p.0 as usize] == SendState::Fine {
             self.sends[p.0 as usize] = SendState::Pending;

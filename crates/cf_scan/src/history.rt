@@ -1,5 +1,6 @@
 //! The history of watched scripts, and its text.
-ghost use Rattle.std.specs.Prelude.{◌≡◌, [], IfOk, string_bytes};
+ghost use Rattle.std.specs.Prelude.{◌≡◌, ◌++◌, [], IfOk, OnOk, string_bytes};
+ghost use Rattle.std.specs.Bool.{Decides};
 ghost use Rattle.cf_scan.specs.Extracts.{history_of};
 ghost use Rattle.cf_scan.specs.Scan.{balance_of};
 ghost use Rattle.cf_scan.specs.HistoryText.{entry_line, last_line, history_text};
@@ -38,22 +39,26 @@ impl Model for History {
     ghost view = { λ h. h.entries.items };
 }
 
-fn write_entry(alloc: Global, entry: &Entry) -> Result<String, NoMemory>
-    ensures { IfOk result (λ text. string_bytes text ≡ entry_line entry.now) }
+// Writes the line of an entry at the end of a text.
+fn put_entry(alloc: Global, entry: &Entry, text: &mut String) -> Result<(), NoMemory>
+    ensures { OnOk result (string_bytes text.new ≡ string_bytes text.old ++ entry_line entry.now) }
 {
     let txid = show(alloc, &entry.txid)?;
     let height = entry.height;
     let received = entry.received;
     let spent = entry.spent;
     let balance = entry.balance;
-    Ok(format!(in alloc; "{height} {txid} +{received} -{spent} {balance}\n")?)
+    write!(text, "{height} {txid} +{received} -{spent} {balance}\n")?;
+    Ok(())
 }
 
-fn write_last(alloc: Global, height: u32, tip: &Hash32) -> Result<String, NoMemory>
-    ensures { IfOk result (λ text. string_bytes text ≡ last_line height tip.now.0) }
+// Writes the last line at the end of a text.
+fn put_last(alloc: Global, height: u32, tip: &Hash32, text: &mut String) -> Result<(), NoMemory>
+    ensures { OnOk result (string_bytes text.new ≡ string_bytes text.old ++ last_line height tip.now.0) }
 {
     let hash = show(alloc, tip)?;
-    Ok(format!(in alloc; "synced {height} {hash}\n")?)
+    write!(text, "synced {height} {hash}\n")?;
+    Ok(())
 }
 
 impl History {
@@ -99,11 +104,16 @@ impl History {
     {
         let mut text = String::new(alloc);
         for entry in self.entries.as_slice() {
-            let line = write_entry(alloc, entry)?;
-            text.push_str(line.as_str())?;
+            put_entry(alloc, entry, &mut text)?;
         }
-        let last = write_last(alloc, height, tip)?;
-        text.push_str(last.as_str())?;
+        put_last(alloc, height, tip, &mut text)?;
         Ok(text)
+    }
+
+    /// Whether the entries are the same.
+    pub fn is_same(&self, other: &History) -> bool
+        ensures { Decides result (self.now ≡ other.now) }
+    {
+        self.entries.as_slice() == other.entries.as_slice()
     }
 }

@@ -32,7 +32,7 @@ returns-in-Ok-ends_of-clause-counts g c =
 pub returns-in-Ok-ends_of-clause-ends : goal.returns-in-Ok-ends_of-clause-ends
 returns-in-Ok-ends_of-clause-ends g c =
     ends_put c.status_of.result false (begun_by c.status_of.result false c.status_of.ensures.unrefused)
-    (copied (g.W.Wires.told c.follow_over.new.wires) g.H.HeaderStore.counts (following c.args.watch) c.args.names.now c.in-Ok.outcome _
+    (copied (g.W.Wires.told c.follow_over.new.wires) g.H.HeaderStore.counts (following c.args.watch) false c.args.names.now c.in-Ok.outcome _
     c.in-Ok-ends_of.ensures c.in-Ok.ensures.outcome c.follow_over.ensures.wires.finished
     c.in-Ok.ensures.within)
 

@@ -60,7 +60,7 @@ returns-in-Ok-follow_over-clause-unrefused g c = unrefused_told c.tell_texts.res
 pub returns-in-Ok-follow_over-clause-ends : goal.returns-in-Ok-follow_over-clause-ends
 returns-in-Ok-follow_over-clause-ends g c =
     ends_told c.in-Ok-follow_over.outcome.end c.in-Ok-follow_over.outcome.ends.items c.tell_texts.result _ _ _ c.tell_texts.ensures.told
-    (copied (g.W.Wires.told c.follow_over.new.wires) CountsOnce (following c.args.watch) c.args.names.now c.in-Ok-follow_over.outcome _ refl c.in-Ok-follow_over.ensures.outcome
+    (copied (g.W.Wires.told c.follow_over.new.wires) CountsOnce (following c.args.watch) c.args.trace c.args.names.now c.in-Ok-follow_over.outcome _ refl c.in-Ok-follow_over.ensures.outcome
     c.follow_over.ensures.wires.finished c.in-Ok-follow_over.ensures.within)
 
 -- ---- what stays

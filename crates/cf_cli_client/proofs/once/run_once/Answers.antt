@@ -54,7 +54,7 @@ returns-in-Ok-sync_over-clause-begun g c = begun_told c.tell.result _ c.tell.ens
 pub returns-in-Ok-sync_over-clause-ends : goal.returns-in-Ok-sync_over-clause-ends
 returns-in-Ok-sync_over-clause-ends g c =
     ends_told c.in-Ok-sync_over.outcome.end c.in-Ok-sync_over.outcome.ends.items c.tell.result _ _ _ c.tell.ensures.told
-    (copied (g.W.Wires.told c.sync_over.new.wires) CountsOnce (once c.args.watch) c.args.names.now c.in-Ok-sync_over.outcome _ refl c.in-Ok-sync_over.ensures.outcome
+    (copied (g.W.Wires.told c.sync_over.new.wires) CountsOnce (once c.args.watch) c.args.trace c.args.names.now c.in-Ok-sync_over.outcome _ refl c.in-Ok-sync_over.ensures.outcome
     c.sync_over.ensures.wires.finished c.in-Ok-sync_over.ensures.within)
 
 -- ---- the calls

@@ -1,4 +1,4 @@
-use Rattle.std.proofs.Common.{rules, w64, ◌≡◌, ◌<◌, ℕ, map, Result, Ok, Err, OnOk, IfOk, length, sym, subst}
+use Rattle.std.proofs.Common.{rules, true, w64, ◌≡◌, ◌<◌, ℕ, map, Result, Ok, Err, OnOk, IfOk, length, sym, subst}
 use Rattle.std.proofs.Math.Facts.{to_z-of_z}
 use Rattle.cf_run.specs.declared.outcome.Outcome.{Outcome}
 use Rattle.cf_run.specs.Names.{names_in}
@@ -35,7 +35,7 @@ returns-clause-honest g c =
     let same : map still (peers_of c.args.played.now) ≡ map still news =
     c.same_peers-2.ensures.same (peers_of c.args.played.now) c.same_peers.ensures.good (sym {a = made_of (peers_of c.sync_over-outcome.new.wires)} c.sync_over-outcome.ensures.wires.course.script) in
     let names = names_in c.args.names.now in
-    on_both {P = λ (o : Outcome). IsOutcome g.H.HeaderStore.counts (once c.args.watch) names o (log_of c.sync_over-outcome.new.wires)}
+    on_both {P = λ (o : Outcome). IsOutcome g.H.HeaderStore.counts (once c.args.watch) true names o (log_of c.sync_over-outcome.new.wires)}
     {Q = λ (o : Outcome). EndsWithin o.end (length c.args.names.now) c.args.turns (tally_of (log_of c.sync_over-outcome.new.wires))}
     c.sync_over-outcome.result c.sync_over-outcome.ensures.outcome c.sync_over-outcome.ensures.within (λ o is within i peer at way few clash.
     honest_among (peers_of c.args.played.now) news (log_of c.sync_over-outcome.new.wires) c.same_peers.ensures.good same accounts

@@ -1,13 +1,11 @@
-use Rattle.std.proofs.Common.{refl, sym, ◌∙◌, ap, subst, string_bytes, rules}
+use Rattle.std.proofs.Common.{refl, sym, ◌∙◌, ap, string_bytes, rules}
 use Rattle.std.proofs.Math.Facts.{to_z-of_z}
 use Rattle.std.proofs.lemmas.List.{length-map}
 use Rattle.std.proofs.lemmas.Result.{err_from_is_err_and}
 use Rattle.std.specs.Int.{w64}
-use Rattle.std.specs.Prelude.{IfSome}
 use Rattle.cf_sync.specs.Fetching.{Rule}
 use Rattle.cf_run.specs.Names.{names_in}
-use Rattle.cf_run.specs.Whole.{IsOutcome}
-use Rattle.cf_run.proofs.Passing.{ends_within, passes_none, passes_turns, passes_untaken}
+use Rattle.cf_run.proofs.Passing.{ends_within, outcome_by, passes_none, passes_turns, passes_untaken}
 use Rattle.cf_run.proofs.Puts.{all_some, all_told, gives_up, is_short, none_before, none_put}
 use Rattle.cf_run.proofs.Rights.{holds_right, right_by, right_new}
 use Rattle.cf_peer.specs.declared.mode.Mode.TheVariants.{Following}
@@ -18,7 +16,8 @@ returns-clause-outcome g c =
     let t = g.W.Wires.told c.follow_turns.new.wires in
     let called = names_in c.args.names.now in
     let rule = c.in_ok-end.ensures.rule ∙ c.in_ok-progress.ensures.terms.rule ∙ c.in_ok-client.ensures.rule in
-    subst (λ (r : Rule). IfSome t.log (IsOutcome g.H.HeaderStore.counts r called c.in_ok-outcome.outcome)) rule
+    let wanted = c.in_ok-end.ensures.takes.runs.wanted ∙ c.in_ok-progress.ensures.wanted in
+    outcome_by g.H.HeaderStore.counts called c.in_ok-outcome.outcome t.log rule wanted
     (c.in_ok-outcome.ensures.outcome called t (c.in_ok-end.ensures.stopped called c.in_ok-progress.ensures.holds))
 
 pub returns-clause-within : goal.returns-clause-within

@@ -1,15 +1,23 @@
 use Rattle.std.proofs.Common.{refl}
 use Rattle.std.proofs.lemmas.Result.{err_from_is_err_and}
-use Rattle.cf_run.proofs.Puts.{none_next, busy_unrested, alone_unrested, one_next, some_puts, texts_err, texts_ok, texts_short}
+use Rattle.cf_run.specs.Texts.{last_text}
+use Rattle.cf_run.proofs.Puts.{none_next, not_put, told_again, busy_unrested, alone_unrested, one_next, some_puts, texts_err, texts_ok, texts_short}
 use Rattle.cf_run.proofs.follow.put_at_rest.Goals as goal
 
 pub returns-in-Working-clause-put : goal.returns-in-Working-clause-put
 returns-in-Working-clause-put g c = λ before is.
-    none_next c.args.client.now before c.args.last.now _ is (λ log reflects. busy_unrested log (c.in-Working.ensures.state log reflects))
+    none_next c.args.client.now before (last_text c.args.last.now) _ is (λ log reflects. busy_unrested log (c.in-Working.ensures.state log reflects))
 
 pub returns-in-NoPeers-clause-put : goal.returns-in-NoPeers-clause-put
 returns-in-NoPeers-clause-put g c = λ before is.
-    none_next c.args.client.now before c.args.last.now _ is (λ log reflects. alone_unrested log (c.in-NoPeers.ensures.state log reflects))
+    none_next c.args.client.now before (last_text c.args.last.now) _ is (λ log reflects. alone_unrested log (c.in-NoPeers.ensures.state log reflects))
+
+pub returns-then-tells-clause-put : goal.returns-then-tells-clause-put
+returns-then-tells-clause-put g c = λ before is.
+    let r = c.in_ok-report.report in
+    one_next c.args.client.now before _ _ _ _ r.height r.tip r.history c.requires.follows c.in-Synced.ensures.state c.in_ok-report.ensures.report refl
+    (not_put _ before (last_text c.args.last.now) _
+    (told_again c.args.last.now r before c.tells.result c.if-tells.true c.tells.ensures.some c.tells.ensures.none is) is)
 
 pub returns-clause-put : goal.returns-clause-put
 returns-clause-put g c = λ before is.
@@ -36,6 +44,9 @@ returns-in-Working-clause-texts g c = texts_ok refl refl
 
 pub returns-in-NoPeers-clause-texts : goal.returns-in-NoPeers-clause-texts
 returns-in-NoPeers-clause-texts g c = texts_ok refl refl
+
+pub returns-then-tells-clause-texts : goal.returns-then-tells-clause-texts
+returns-then-tells-clause-texts g c = texts_ok refl refl
 
 pub returns-clause-texts : goal.returns-clause-texts
 returns-clause-texts g c = texts_ok c.in_ok-put_text.ensures.texts.fine c.in_ok-put_text.ensures.texts.same_reference

@@ -1,13 +1,13 @@
 use Rattle.std.proofs.Common.{List, ℕ, Err, true, false, refl, ◌∙◌, ap, subst}
 use Rattle.std.proofs.lemmas.Result.{err_from_is_err_and}
 use Rattle.cf_bytes.specs.Outside.{with_more}
-use Rattle.cf_run.specs.Texts.{HasBegun}
+use Rattle.cf_run.specs.Texts.{HasBegun, last_text}
 use Rattle.cf_run.proofs.Puts.{not_put, one_put, begun_by, added_by, texts_ok}
 use Rattle.cf_run.proofs.follow.put_text.Goals as goal
 
 pub returns-then-is_last-clause-put : goal.returns-then-is_last-clause-put
 returns-then-is_last-clause-put g c = λ before is.
-    not_put _ before c.args.last.now _ (added_by _ c.as_str.result.now before c.is_last.result true c.as_str.ensures.value c.if-is_last.true (c.is_last.ensures before is)) is
+    not_put _ before (last_text c.args.last.now) _ (added_by _ c.as_str.result.now before c.is_last.result true c.as_str.ensures.value c.if-is_last.true (c.is_last.ensures before is)) is
 
 pub returns-clause-put : goal.returns-clause-put
 returns-clause-put g c = λ before is.

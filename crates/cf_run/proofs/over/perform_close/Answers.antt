@@ -22,7 +22,7 @@ pub returns-clause-doing : goal.returns-clause-doing
 returns-clause-doing g c = λ rule more called planned may doing.
     let free : is_pending (state_at c.args.progress.now.sends c.args.p.0) ≡ false = sym c.is_pending.ensures ∙ c.if-is_pending.false in
     rw c.close.ensures.closed
-    (closed_on more c.args.progress.now c.push.new.self called planned _ c.args.p c.args.cause free c.in_ok-push.ensures.items may doing)
+    (closed_on more c.args.progress.now c.push.new.self called planned _ c.args.p c.args.cause free c.in_ok-push.ensures.kept c.push.ensures.wanted may doing)
 
 pub returns-clause-versions : goal.returns-clause-versions
 returns-clause-versions g c = λ greeting. entry_keeps greeting (Closed c.args.p) _ _ c.close.ensures.closed tt

@@ -16,7 +16,7 @@ pub returns-in_ok-push-in-Ok-clause-doing : goal.returns-in_ok-push-in-Ok-clause
 returns-in_ok-push-in-Ok-clause-doing g c = λ rule more called planned may doing.
     let free : is_pending (state_at c.args.progress.now.sends c.args.p.0) ≡ false = sym c.is_pending.ensures ∙ c.if-is_pending.false in
     rw c.in-Ok.ensures.sent.1
-    (sent_on more c.args.progress.now c.push.new.self called planned _ c.args.p c.args.message.now c.in-Ok.command free c.in_ok-push-in-Ok.ensures.items c.in-Ok.ensures.sent.0 may doing)
+    (sent_on more c.args.progress.now c.push.new.self called planned _ c.args.p c.args.message.now c.in-Ok.command free c.in_ok-push-in-Ok.ensures.kept c.push.ensures.wanted c.in-Ok.ensures.sent.0 may doing)
 
 pub returns-in-Err-Failed-clause-doing : goal.returns-in-Err-Failed-clause-doing
 returns-in-Err-Failed-clause-doing g c = λ rule more called planned may doing.

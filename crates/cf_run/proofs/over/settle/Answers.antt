@@ -58,7 +58,8 @@ loop-p-preserved g c = record {
   rule = c.in_ok-acts.ensures.rule ∙ c.loop-p.invariant.rule;
   greeting = c.in_ok-acts.ensures.greeting ∙ c.loop-p.invariant.greeting;
   performs = performs_then c.loop-p.invariant.performs
-      (performs_then (noted_performs _ _ _ _ c.loop-p.progress _ (ap (λ (x : Progress). x.closed) c.note_told.ensures.told) c.note_told.ensures.fewer c.loop-p.invariant.performs.runs.step) c.in_ok-perform_acts.ensures.performs);
+      (performs_then (noted_performs _ _ _ _ c.loop-p.progress _ (ap (λ (x : Progress). x.closed) c.note_told.ensures.told) (ap (λ (x : Progress). x.trace) c.note_told.ensures.told)
+      c.note_told.ensures.fewer c.loop-p.invariant.performs.runs.step) c.in_ok-perform_acts.ensures.performs);
 }
 
 pub returns-clause-holds : goal.returns-clause-holds

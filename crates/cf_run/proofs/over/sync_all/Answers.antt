@@ -1,12 +1,9 @@
-use Rattle.std.proofs.Common.{◌∙◌, subst, rules}
+use Rattle.std.proofs.Common.{◌∙◌, rules}
 use Rattle.std.proofs.Math.Facts.{to_z-of_z}
 use Rattle.std.proofs.lemmas.Result.{IfOk-weaker}
 use Rattle.std.specs.Int.{w64}
-use Rattle.std.specs.Prelude.{IfOk, IfSome}
-use Rattle.cf_sync.specs.Fetching.{Rule}
 use Rattle.cf_run.specs.Names.{names_in}
-use Rattle.cf_run.specs.Whole.{IsOutcome}
-use Rattle.cf_run.proofs.Passing.{ends_within, passes_none, passes_turns, passes_untaken}
+use Rattle.cf_run.proofs.Passing.{ends_within, outcome_by, passes_none, passes_turns, passes_untaken}
 use Rattle.cf_run.proofs.Rights.{holds_right, right_by, right_new}
 use Rattle.cf_peer.specs.declared.mode.Mode.TheVariants.{Once}
 use Rattle.cf_run.proofs.over.sync_all.Goals as goal
@@ -17,9 +14,9 @@ returns-clause-outcome g c =
     let called = names_in c.args.names.now in
     let rule = c.in_ok-end.ensures.terms.rule ∙ c.in_ok-progress.ensures.terms.rule ∙ c.in_ok-client.ensures.rule in
     let stopped = c.in_ok-end.ensures.stopped called c.in_ok-progress.ensures.holds in
-    subst (λ (r : Rule). IfOk c.outcome_of.result
-    (λ o. IfSome t.log (IsOutcome g.H.HeaderStore.counts r called o))) rule
-    (IfOk-weaker c.outcome_of.result _ _ (λ o is. is called t stopped) c.outcome_of.ensures.outcome)
+    let wanted = c.in_ok-end.ensures.takes.runs.wanted ∙ c.in_ok-progress.ensures.wanted in
+    IfOk-weaker c.outcome_of.result _ _ (λ o is. outcome_by g.H.HeaderStore.counts called o t.log rule wanted (is called t stopped))
+    c.outcome_of.ensures.outcome
 
 pub returns-clause-within : goal.returns-clause-within
 returns-clause-within g c =
