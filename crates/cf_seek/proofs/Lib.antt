@@ -14,3 +14,4 @@ pub mod SoughtStays
 pub mod Trials
 pub mod Disputed
 pub mod Aiming
+pub mod Asked

@@ -21,6 +21,11 @@ abbrev pub raised : Marks → ℕ → ℕ → ℕ → Marks
 raised marks claimed sought passed =
     record { claimed = claimed; sought = max marks.sought (min sought claimed); passed = max marks.passed (min passed claimed) }
 
+-- with no less claimed and sought than up to a height, if there is one
+abbrev pub reached_to : Option ℕ → Marks → Marks
+reached_to None marks = marks
+reached_to (Some top) marks = record { claimed = max marks.claimed top; sought = max marks.sought top; passed = marks.passed }
+
 -- a peer's marks with so much claimed
 abbrev pub further : List Marks → ℕ → ℕ → List Marks
 further cursors p claimed = slice_set cursors p (record (marks_at cursors p) { claimed = claimed })

@@ -12,7 +12,7 @@ pub mod Aims
 pub mod Opening
 pub use Rattle.cf_seek.specs.Tracking.{AreAmong, AreMarked, best_chain, IsBestChain, IsReport}
 pub use Rattle.cf_seek.specs.Cursors.{marks_at, settled, unpassed, unsought}
-pub use Rattle.cf_seek.specs.Spans.{GoesFar, IsAskedFor, IsAskedInPart, IsWish}
+pub use Rattle.cf_seek.specs.Spans.{asked_marks, GoesFar, IsAskedFor, IsAskedInPart, IsWish, MayBePut}
 pub use Rattle.cf_seek.specs.Opens.{IsBlockFree, IsFilterFree}
 pub use Rattle.cf_seek.specs.OpensAll.{opens_in}
 pub use Rattle.cf_seek.specs.Seeking.{ArePassed, AreSought, IsToAsk, IsToGet, MoreOpens}

@@ -1,16 +1,18 @@
 -- statement: what one question is about.
-use Rattle.std.specs.Prelude.{◌≡◌, ℕ, ◌≤◌, ◌<◌, ◌+◌, pred, [], ◌∷◌, map, length, Some}
+use Rattle.std.specs.Prelude.{◌≡◌, ℕ, ◌≤◌, ◌<◌, ◌+◌, pred, List, [], ◌∷◌, map, length, Some, slice_set}
 use Rattle.cf_bytes.specs.declared.hash.Hash32.{Hash32}
 use Rattle.cf_block.specs.Header.{block_hash_of}
 use Rattle.cf_dispute.specs.Claims.{Tables}
 use Rattle.cf_headers.specs.Chain.{Chain, above, lower, back_to, tip_hash}
-use Rattle.cf_headers.specs.Heights.{hash_at}
+use Rattle.cf_headers.specs.Heights.{hash_at, height_of}
 use Rattle.cf_match.specs.Verdicts.{Verdicts}
+use Rattle.cf_seek.specs.declared.cursors.Marks.{Marks}
 use Rattle.cf_seek.specs.declared.spans.Span.{Span}
 use Rattle.cf_seek.specs.declared.spans.Wish.{Wish}
 use Rattle.cf_seek.specs.declared.spans.Wish.TheVariants.{Nothing, Claims, Filters, Block, Test}
 use Rattle.cf_seek.specs.declared.want.Want.TheVariants.{Nothing as NothingWanted, Claims as ClaimsFrom, Filters as FiltersFrom, Block as BlockAt}
 use Rattle.cf_dispute.specs.Tables.{blocks_of}
+use Rattle.cf_seek.specs.Cursors.{marks_at, reached_to}
 use Rattle.cf_seek.specs.Ends.{AreUnclaimed, IsLastUnclaimed}
 use Rattle.cf_seek.specs.Opens.{Opens}
 use Rattle.cf_seek.specs.Opening.{IsSameOpens, OpensBlock, OpensFilters, OpensSome}
@@ -69,3 +71,17 @@ IsAskedInPart p (Claims span) before after = IsSameOpens before after
 IsAskedInPart p (Filters span) before after = OpensSome before after p (blocks_of span.blocks.items)
 IsAskedInPart p (Block hash) before after = IsSameOpens before after
 IsAskedInPart p (Test trial) before after = OpensSome before after p (trial.block.0 ∷ [])
+
+-- a question that may be put about the blocks of a peer's chain, up to one of its heights
+pub record MayBePut (extracts : ExtractTable) (tables : Tables) (verdicts : Verdicts) (opens : Opens) (p : ℕ) (own : Chain) (wish : Wish) : Type 0 where
+  pub common : ℕ
+  pub low : common ≤ length own
+  pub asks : IsWish extracts tables verdicts opens p own common wish
+
+-- the marks of a peer that was asked: of its blocks up to the last of those whose filters it was asked for nothing is sought that isn't open
+abbrev pub asked_marks : Chain → List Marks → ℕ → Wish → List Marks
+asked_marks own cursors p Nothing = cursors
+asked_marks own cursors p (Claims span) = cursors
+asked_marks own cursors p (Filters span) = slice_set cursors p (reached_to (height_of span.stop.0 own) (marks_at cursors p))
+asked_marks own cursors p (Block hash) = cursors
+asked_marks own cursors p (Test trial) = cursors

@@ -1,6 +1,6 @@
 //! Up to which heights what is known of the blocks of the peers' chains.
 ghost use Rattle.std.specs.Prelude.{◌≡◌, ◌≤◌, ℕ, true, false, replicate, slice_index_or, slice_set, vec_len, IfOk};
-ghost use Rattle.cf_seek.specs.Cursors.{fallen, further, lowered, marks_at, no_marks, raised, settled, unpassed, unsought};
+ghost use Rattle.cf_seek.specs.Cursors.{fallen, further, lowered, marks_at, no_marks, raised, reached_to, settled, unpassed, unsought};
 
 use cf_bytes::{NoMemory, PLACES, PeerNo};
 use cf_headers::Change;
@@ -42,6 +42,20 @@ impl Marks {
             claimed,
             sought: self.sought.max(sought.min(claimed)),
             passed: self.passed.max(passed.min(claimed)),
+        }
+    }
+
+    /// With no less claimed and sought than up to a height, if there is one.
+    pub fn reached(self, top: Option<u32>) -> Marks
+        ensures { result ≡ reached_to top self }
+    {
+        match top {
+            Some(top) => Marks {
+                claimed: self.claimed.max(top),
+                sought: self.sought.max(top),
+                passed: self.passed,
+            },
+            None => self,
         }
     }
 }

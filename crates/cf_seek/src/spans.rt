@@ -1,8 +1,9 @@
 //! What one question is about.
 ghost use Rattle.std.specs.Prelude.{◌≡◌, ℕ, ◌<◌, ◌≤◌, IsSome, IfOk, length};
 ghost use Rattle.cf_headers.specs.{hash_at, own_of};
-ghost use Rattle.cf_seek.specs.Spans.{IsSpan};
+ghost use Rattle.cf_seek.specs.Spans.{asked_marks, IsSpan};
 
+use crate::cursors::Cursors;
 use crate::testing::Trial;
 use cf_bytes::{Hash32, NoMemory, PeerNo};
 use cf_headers::HeaderStore;
@@ -34,6 +35,17 @@ pub enum Wish {
     Block(Hash32),
     /// The filter of one block that was fetched, so that it is tested.
     Test(Trial),
+}
+
+/// No filter of the blocks that an entered peer was asked about is to be asked for any more.
+pub fn raise_asked<H: HeaderStore>(store: &H, cursors: &mut Cursors, p: PeerNo, wish: &Wish)
+    requires { IsSome (H.chain store.now p.0) }
+    ensures { cursors.new ≡ asked_marks (own_of (H.chain store.now) p) cursors.old p.0 wish.now }
+{
+    if let Wish::Filters(span) = wish {
+        let top = store.place(p, &span.stop);
+        cursors.put(p, cursors.of(p).reached(top));
+    }
 }
 
 /// The blocks of a peer's chain from a height up to another, below which its hash stands at no lower height than the

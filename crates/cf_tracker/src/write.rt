@@ -107,8 +107,8 @@ fn climb_settled<H: HeaderStore>(store: &H, known: Known, p: PeerNo, from: u32, 
     most
 }
 
-/// Up to where an entered peer's blocks are settled: up to its tip exactly where all of them above a height are. They
-/// are looked at from another height on first, and the lower ones only once all of these are settled.
+/// Up to where an entered peer's blocks are settled: up to its tip exactly where all of them above a height are. Its tip
+/// is looked at first; then they are from another height on, and the lower ones only once all of these are settled.
 pub(crate) fn settled_to<H: HeaderStore>(
     store: &H,
     known: Known,
@@ -126,6 +126,9 @@ pub(crate) fn settled_to<H: HeaderStore>(
         (verdicts_in known.entry.judged.now) (own_of (H.chain store.now) p) from most → ⊥ }
 {
     let middle = before.max(from).min(most);
+    if middle < most && !is_settled(known, &store.hash_at(p, most)) {
+        return middle;
+    }
     let high = climb_settled(store, known, p, middle, most);
     if high < most {
         return high;

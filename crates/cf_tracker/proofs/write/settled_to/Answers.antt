@@ -1,10 +1,17 @@
-use Rattle.std.proofs.Common.{arith}
+use Rattle.std.proofs.Common.{sym, subst, arith}
 use Rattle.cf_dispute.specs.Of.{tables_of}
 use Rattle.cf_headers.specs.Store.{own_of}
 use Rattle.cf_tables.specs.Extracts.{table_in}
 use Rattle.cf_tables.specs.Judged.{verdicts_in}
+use Rattle.cf_tracker.specs.Writing.{IsDoneAbove}
 use Rattle.cf_tracker.proofs.Settling.{done_both, undone_at}
 use Rattle.cf_tracker.proofs.write.settled_to.Goals as goal
+
+pub returns-then-not-is_settled-clause-no : goal.returns-then-not-is_settled-clause-no
+returns-then-not-is_settled-clause-no g c = λ lt all.
+    c.is_settled.ensures.no c.if-not-is_settled.true
+    (subst (IsDoneAbove (table_in c.args.known.extracts.now) (tables_of c.args.known.claims.now) (verdicts_in c.args.known.judged.now)) (sym c.hash_at.ensures)
+    (all c.args.most (omega (arith, lt, c.min-middle.ensures, c.max.ensures)) (omega arith)))
 
 pub returns-then-high-most-clause-no : goal.returns-then-high-most-clause-no
 returns-then-high-most-clause-no g c = λ lt.

@@ -73,3 +73,9 @@ wish_for-requires-clause-tried g c =
     let now = c.args.self.now in
     tried_to (g.H.HeaderStore.chain now.store) (table_in now.extracts) (tables_of now.claims) (told_in now.tests) now.tried c.args.p
     c.of-2.result c.of-2.ensures c.requires.first now.trials
+
+pub returns-clause-put : goal.returns-clause-put
+returns-clause-put g c =
+    let own = own_of (g.H.HeaderStore.chain c.args.self.now.store) c.args.p in
+    let other = own_of (g.H.HeaderStore.chain c.args.self.now.store) c.args.other in
+    record { common = common_of own other; low = (common_low own other).0; asks = rw c.common-common.ensures at c.in_ok-tried.ensures.wish }
