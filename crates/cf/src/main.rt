@@ -109,9 +109,7 @@ fn run_command<
     let mut heard = Heard::new(network);
     let mut files = ShownFiles::new(teller, dials.watches);
     let mut ends = Vec::new(alloc);
-    let Ok(working) = Working::begin(teller, spawner, words) else {
-        return not_begun(teller, words);
-    };
+    let working = Working::begin(teller, spawner, words);
     let status = run(
         handle,
         alloc,

@@ -1,5 +1,4 @@
 //! How long a command works of which nothing else is seen, told on a terminal.
-use cf_bytes::NoMemory;
 use cf_tasks::{Running, Spawner, Task};
 use cf_tell::Teller;
 use std::alloc::Global;
@@ -72,47 +71,63 @@ impl Task for TellSeconds {
     }
 }
 
+// The thread that tells it, and how it is told that the command is over.
+#[derive(Drop)]
+struct Telling {
+    over: Arc<AtomicBool, Global>,
+    running: Running<TellSeconds>,
+}
+
+impl Telling {
+    // Begins it, where memory and a thread are found.
+    fn begin<K: Spawner>(
+        teller: &'static Teller,
+        spawner: &mut K,
+        work: &'static str,
+    ) -> Option<Telling> {
+        let alloc = teller.runtime().alloc();
+        let over = Arc::new(alloc, AtomicBool::new(false)).ok()?;
+        let theirs = Arc::try_clone(&over).ok()?;
+        let task = TellSeconds {
+            teller,
+            work,
+            over: theirs,
+        };
+        match spawner.start(alloc, task) {
+            Ok(running) => Some(Telling { over, running }),
+            Err(_) => None,
+        }
+    }
+}
+
 /// A command that works. Where standard error is a terminal, and nothing else is seen of the command, a thread tells
 /// there once a second for how long it has worked.
 #[derive(Drop)]
 pub struct Working {
-    over: Arc<AtomicBool, Global>,
-    telling: Option<Running<TellSeconds>>,
+    telling: Option<Telling>,
 }
 
 impl Working {
-    /// The command of these words begins. Where no thread is found for it nothing is told.
-    ///
-    /// # Errors
-    ///
-    /// Where no memory is found.
+    /// The command of these words begins. Where no memory or no thread is found for it, nothing is told.
     pub fn begin<K: Spawner>(
         teller: &'static Teller,
         spawner: &mut K,
         words: &[String],
-    ) -> Result<Working, NoMemory> {
-        let rt = teller.runtime();
-        let over = Arc::new(rt.alloc(), AtomicBool::new(false))?;
+    ) -> Working {
         let telling = match work_of(words) {
-            Some(work) if rt.stderr().is_terminal() => {
-                let theirs = Arc::try_clone(&over)?;
-                let task = TellSeconds {
-                    teller,
-                    work,
-                    over: theirs,
-                };
-                spawner.start(rt.alloc(), task).ok()
+            Some(work) if teller.runtime().stderr().is_terminal() => {
+                Telling::begin(teller, spawner, work)
             }
             _ => None,
         };
-        Ok(Working { over, telling })
+        Working { telling }
     }
 
     /// The command is over. The line that stands there is taken away.
     pub fn end<K: Spawner>(self, spawner: &mut K) {
-        let Working { over, telling } = self;
-        over.store(true, Ordering::SeqCst);
-        if let Some(running) = telling {
+        let Working { telling } = self;
+        if let Some(Telling { over, running }) = telling {
+            over.store(true, Ordering::SeqCst);
             let _ended = spawner.join(running);
         }
     }
