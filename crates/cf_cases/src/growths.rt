@@ -122,7 +122,11 @@ fn grown_in<R: Threads + Sync>(
 ) -> Option<(Arc<Mutex<Grown<Unkept>>, Global>, Tip)> {
     let index = index_in(rt, alloc, chain)?;
     let first = Tip::of(&index);
-    let grown = Arc::new(alloc, Mutex::new(Grown::new(alloc, index, MOST_JOINED, Unkept))).ok()?;
+    let grown = Arc::new(
+        alloc,
+        Mutex::new(Grown::new(alloc, index, MOST_JOINED, Unkept)),
+    )
+    .ok()?;
     Some((grown, first))
 }
 

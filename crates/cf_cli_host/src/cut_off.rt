@@ -109,7 +109,11 @@ fn is_whole(alloc: Global, text: &[u8]) -> Result<bool, NoMemory> {
 
 // Whether a record has no block, or one whose header stands for other transactions, and ends in zeros.
 fn is_broken(alloc: Global, file: &mut File, last: Last) -> io::Result<bool> {
-    let size = last.end.saturating_sub(last.start).saturating_sub(8).min(MOST_TEXT) as usize;
+    let size = last
+        .end
+        .saturating_sub(last.start)
+        .saturating_sub(8)
+        .min(MOST_TEXT) as usize;
     let mut text = Vec::new(alloc);
     text.resize(size, 0u8)?;
     read_at(file, last.start.saturating_add(8), &mut text)?;

@@ -153,7 +153,10 @@ impl KeptFile {
                 place: Some(place),
             }),
             Err(reason) => {
-                let _told = eprintln!(teller; "cf: {} could not be written: {reason}", file.as_str());
+                let _told = eprintln!(teller;
+                    "cf: {} could not be written: {reason}",
+                    file.as_str()
+                );
                 Err(Status::FileFault)
             }
         }

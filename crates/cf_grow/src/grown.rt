@@ -105,6 +105,7 @@ impl<K: Keeper> Grown<K> {
     }
 
     // Puts a block on the chain that may stand there, once its record is kept. Where it isn't put on nothing is kept.
+    #[tactic(auto, using(crate::proofs::Keeping::taken_back))]
     fn join(
         &mut self,
         alloc: Global,
@@ -140,7 +141,7 @@ impl<K: Keeper> Grown<K> {
 
     // Puts the block of a frame on the chain, where it may stand there. Where the frame's bytes have no room, or the
     // block's record isn't kept, no memory is found.
-    #[tactic(auto, using(crate::proofs::Grows::put_so))]
+    #[tactic(auto, using(crate::proofs::Grows::put_so, crate::proofs::Keeping::kept_so))]
     fn put(&mut self, alloc: Global, frame: Frame, block: Block) -> Result<(), NoMemory>
         requires block { IsBlock block }
         requires brings { message_in frame ≡ Ok (BlockMessage block) }
@@ -164,7 +165,7 @@ impl<K: Keeper> Grown<K> {
     }
 
     // Puts the block of a frame on the chain, where it may stand there and wasn't refused lately.
-    #[tactic(auto, using(crate::proofs::Grows::stays_refused))]
+    #[tactic(auto, using(crate::proofs::Grows::stays_refused, crate::proofs::Keeping::keeps_none))]
     fn put_new(&mut self, alloc: Global, frame: Frame, block: Block) -> Result<(), NoMemory>
         requires block { IsBlock block }
         requires brings { message_in frame ≡ Ok (BlockMessage block) }
@@ -180,6 +181,7 @@ impl<K: Keeper> Grown<K> {
     }
 
     // Puts the block of a message on the chain, where its sender was met and the block may stand there.
+    #[tactic(auto, using(crate::proofs::Keeping::keeps_none))]
     fn grow(&mut self, alloc: Global, met: bool, frame: Frame, msg: Msg) -> Result<(), NoMemory>
         requires spelled { HasSpelling msg }
         requires brings { message_in frame ≡ Ok msg }

@@ -50,7 +50,11 @@ fn count_mistake(alloc: Global, matches: &ArgMatches) -> Result<String, NoMemory
 // What is wrong with words of how a chain grows.
 fn growth_mistake(alloc: Global, matches: &ArgMatches) -> Result<String, NoMemory> {
     if !is_set(matches, "grow") {
-        let word = if is_set(matches, "keep") { "--keep" } else { "--grow-bytes" };
+        let word = if is_set(matches, "keep") {
+            "--keep"
+        } else {
+            "--grow-bytes"
+        };
         return Ok(format!(in alloc; "{word} goes with --grow alone")?);
     }
     ranged(alloc, "N of --grow-bytes", 1, MOST_GROWTH)

@@ -507,7 +507,11 @@ pub(crate) fn growth_of(grow: bool, keep: bool, text: Option<&str>) -> Option<Op
     ensures { result ≡ growth_of grow keep (option_map (λ s. s.now) text.entry) }
 {
     if !grow {
-        return if keep || text.is_some() { None } else { Some(None) };
+        return if keep || text.is_some() {
+            None
+        } else {
+            Some(None)
+        };
     }
     match bytes_of_growth(text) {
         Some(bytes) => Some(Some(Growth { bytes, keep })),
