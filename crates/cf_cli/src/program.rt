@@ -411,7 +411,8 @@ where
 /// `tape`, and `demo` over the peers that it adds to `played`; all three are new, nothing has passed them, they aren't
 /// finished, no call of `tape` is to fail, and `played` has no peers. `serve` goes over `link`, and starts its
 /// connections by `spawner`, and so do `sync`, `follow` and `demo` the threads that judge filters. With `--grow` it
-/// tells `joins` of each block that joins its chain. The text goes to `out`.
+/// tells `joins` of each block that joins its chain, and with `--keep` each is in `keeper` before that. The text goes
+/// to `out`.
 ///
 /// `NoMemory` may come in place of any other answer. `Usage` comes where the words ask for nothing. The watch file is
 /// judged first, then the session file: what is missing, refused or good is answered so. After that the run is made; a
