@@ -19,15 +19,15 @@ struct Place {
     file: File,
     // Where its last whole record ends.
     end: u64,
-    // Whether bytes behind that may still stand, since they could not be cut off.
+    // Whether bytes may stand behind that.
     is_torn: bool,
 }
 
 impl Place {
     // Whether a record of so many bytes has its place at the end.
     fn look(&self, count: u64) -> io::Result<()> {
-        if self.is_torn || self.file.metadata()?.len() != self.end {
-            return Err(refusal("it has changed since it was read"));
+        if self.file.metadata()?.len() != self.end {
+            return Err(refusal("its length has changed since it was read"));
         }
         if self.end.saturating_add(count) > MOST_BLOCKS as u64 {
             return Err(refusal("it would have more bytes than a start reads"));
@@ -35,36 +35,47 @@ impl Place {
         Ok(())
     }
 
-    // Writes the record behind the last one, and waits until it stays.
-    fn append(&mut self, record: &[u8]) -> io::Result<()> {
-        self.file.seek(SeekFrom::Start(self.end))?;
-        self.file.write_all(record)?;
-        self.file.sync_all()
-    }
-
     // Cuts off what stands behind the last whole record.
     fn cut(&mut self) -> io::Result<()> {
-        self.is_torn = true;
         self.file.set_len(self.end)?;
         self.file.sync_all()?;
         self.is_torn = false;
         Ok(())
     }
 
-    // Puts a record behind the last one. Where that fails the file is cut back.
+    // Writes a record behind the last one, and waits until it stays.
+    fn append(&mut self, record: &[u8]) -> io::Result<()> {
+        self.file.seek(SeekFrom::Start(self.end))?;
+        self.file.write_all(record)?;
+        self.file.sync_all()
+    }
+
+    // The same where it has its place, once what a failed call has left is cut off.
     fn put(&mut self, record: &[u8]) -> io::Result<()> {
         let count = record.len() as u64;
-        self.look(count)?;
-        match self.append(record) {
-            Ok(()) => {
-                self.end = self.end.saturating_add(count);
-                Ok(())
-            }
-            Err(reason) => {
-                let _cut = self.cut();
-                Err(reason)
-            }
+        if self.is_torn {
+            self.cut()?;
         }
+        self.look(count)?;
+        self.is_torn = true;
+        self.append(record)?;
+        self.is_torn = false;
+        self.end = self.end.saturating_add(count);
+        Ok(())
+    }
+
+    // Cuts off what a failed call has left. Where that fails too, the next one tries it again.
+    fn cut_back(&mut self) {
+        if self.is_torn {
+            let _cut = self.cut();
+        }
+    }
+
+    // Takes so many bytes away from the end.
+    fn take_back(&mut self, count: u64) {
+        self.end = self.end.saturating_sub(count);
+        self.is_torn = true;
+        self.cut_back();
     }
 }
 
@@ -177,6 +188,7 @@ impl Keeper for KeptFile {
                     "cf: a block could not be kept in {}: {reason}",
                     place.name
                 );
+                place.cut_back();
                 Err(Failed)
             }
         }
@@ -184,8 +196,7 @@ impl Keeper for KeptFile {
 
     fn take_back(&mut self, count: usize) {
         if let Some(place) = &mut self.place {
-            place.end = place.end.saturating_sub(count as u64);
-            let _cut = place.cut();
+            place.take_back(count as u64);
         }
     }
 }
