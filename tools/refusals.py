@@ -26,6 +26,7 @@ WHY = {
     ("cf_cli_host/src/listener.rt", "ready"): "no memory was found for the link",
     ("cf_cli_host/src/listener.rt", "ready_for"): "no memory was found for the link",
     ("cf_grow/src/grown.rt", "put"): "the room for blocks that join (`--grow-bytes`) is used up, which is answered like memory that isn't found",
+    ("cf_grow/src/record.rt", "record_of"): LENGTH,
     ("cf_link/src/tcp.rt", "new"): "no memory was found for the seats",
     ("cf_cli_client/src/following.rt", "record_run"): "the run before it answered so",
     ("cf_cli_demo/src/demoing.rt", "demo"): UNREACHED,

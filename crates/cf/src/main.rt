@@ -9,9 +9,9 @@ use cf_answers::{Status, own_text};
 use cf_bytes::{Refused, put_all};
 use cf_cli::run;
 use cf_cli_host::{
-    Call, Edge, Failure, Heard, Joined, Listener, Redial, ShownFiles, TextSink, Working, hold,
-    is_follow, moment, nonce, read_call, read_dials, tell, tell_advice, tell_hint, tell_stands,
-    try_record, with_turns, words_of,
+    Call, Edge, Failure, Heard, Joined, KeptFile, Listener, Redial, ShownFiles, TextSink, Working,
+    hold, is_follow, moment, nonce, read_call, read_dials, tell, tell_advice, tell_hint,
+    tell_stands, try_record, with_turns, words_of,
 };
 use cf_network::Network;
 use cf_tasks::{InThreads, Spawner};
@@ -97,6 +97,10 @@ fn run_command<
         Ok(listener) => listener,
         Err(status) => return unrun(told(teller, words, status, &None)),
     };
+    let keeper = match KeptFile::ready(teller, words) {
+        Ok(keeper) => keeper,
+        Err(status) => return unrun(status),
+    };
     let Ok(edge) = Edge::new(teller, handle, spawner, dials.names.as_slice()) else {
         return not_begun(teller, words);
     };
@@ -114,6 +118,7 @@ fn run_command<
         handle,
         alloc,
         Joined::new(teller),
+        keeper,
         words,
         moment(&rt),
         nonce(&rt),

@@ -26,7 +26,7 @@ usage: cf scan FILE WATCH
        cf sync [--turns N] [--workers N] [--record FILE] WATCH PEER..
        cf follow [--turns N] [--workers N] [--record FILE] [--redial SECONDS]
                  WATCH PEER..
-       cf serve [--grow [--grow-bytes N]] [--endless | --connections N]
+       cf serve [--grow [--grow-bytes N] [--keep]] [--endless | --connections N]
                 [--at-once N] [--budget N] FILE ADDRESS
        cf address TEXT
        cf prove FILE TXID
@@ -65,6 +65,7 @@ usage: cf scan FILE WATCH
   --grow-bytes
              with --grow: takes N bytes of blocks at most, from 1 to 4294967295
              (else 1073741824)
+  --keep     with --grow: puts the blocks that it takes behind those of FILE
   --endless  serves without an end by the number of connections
   --at-once  serves N connections at a time, from 1 to 1000000 (else 125)
   --budget   holds N megabytes of large messages, from 1 to 1000000 (else 256)

@@ -135,7 +135,7 @@ NAME
     cf serve - serves blocks and their filters
 
 SYNOPSIS
-    cf serve [--grow [--grow-bytes N]] [--endless | --connections N]
+    cf serve [--grow [--grow-bytes N] [--keep]] [--endless | --connections N]
              [--at-once N] [--budget N] FILE ADDRESS
 
 DESCRIPTION
@@ -154,15 +154,20 @@ OPTIONS
         Holds N megabytes of large messages, from 1 to 1000000 (else 256).
     --grow
         Takes the blocks that the connections bring, and announces them. FILE
-        stays as it is.
+        stays as it is, but with --keep.
     --grow-bytes N
         With --grow: takes N bytes of blocks at most, from 1 to 4294967295
         (else 1073741824).
+    --keep
+        With --grow: puts each block that joins behind those of FILE, before
+        its joining is told. A record that a crash has cut off is removed at
+        the next start.
 
 EXAMPLE
     $ cf serve --connections 1 data/blocks.dat 127.0.0.1:28445
     cf: listening on 127.0.0.1:28445
     cf: serving 3 0687f29f13ea02af647ed385493e4f3db218b245f4fa87c9ab143b283203b206
+    cf: connection 1: from 127.0.0.1:50514
     cf: connection 1: the peer has closed it
 ";
 

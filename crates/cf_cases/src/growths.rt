@@ -5,14 +5,14 @@ ghost use Rattle.cf_conn.specs.{Writes};
 use crate::conversations::{MOMENT, NONCE, conn_in, index_in, shown as bytes_shown};
 use cf_bytes::{Failed, Sink};
 use cf_conn::{Duplex, MemoryConn, MemoryEnd, Source};
-use cf_grow::{Ending, Grown, MOST_JOINED, Nobody, Tip, serve_grown};
+use cf_grow::{Ending, Grown, KeptBytes, MOST_JOINED, Nobody, Tip, serve_grown};
 use cf_rows::Host;
 use std::alloc::Global;
 use std::marker::Model;
 use std::sync::{Arc, Mutex, Wait};
 use std::thread::Threads;
 
-// The most bytes that are written to a connection.
+// The most bytes that are written to a connection, and the most that are kept.
 const ROOM: usize = 4_000_000;
 
 /// A connection by which another one is served, whole, before one of its reads.
@@ -20,7 +20,7 @@ const ROOM: usize = 4_000_000;
 struct Around<R: Wait + Copy + Drop> {
     rt: R,
     alloc: Global,
-    grown: Arc<Mutex<Grown>, Global>,
+    grown: Arc<Mutex<Grown<KeptBytes>>, Global>,
     first: Tip,
     conn: MemoryConn,
     within: MemoryConn,
@@ -119,10 +119,12 @@ fn grown_in<R: Threads + Sync>(
     rt: &R,
     alloc: Global,
     chain: &str,
-) -> Option<(Arc<Mutex<Grown>, Global>, Tip)> {
+) -> Option<(Arc<Mutex<Grown<KeptBytes>>, Global>, Tip)> {
     let index = index_in(rt, alloc, chain)?;
     let first = Tip::of(&index);
-    let grown = Arc::new(alloc, Mutex::new(Grown::new(alloc, index, MOST_JOINED))).ok()?;
+    let keeper = KeptBytes::new(Vec::new(alloc), ROOM);
+    let grown = Grown::new(alloc, index, MOST_JOINED, keeper);
+    let grown = Arc::new(alloc, Mutex::new(grown)).ok()?;
     Some((grown, first))
 }
 
@@ -130,7 +132,7 @@ fn grown_in<R: Threads + Sync>(
 fn around_in<R: Wait + Copy + Drop>(
     rt: R,
     alloc: Global,
-    grown: &Arc<Mutex<Grown>, Global>,
+    grown: &Arc<Mutex<Grown<KeptBytes>>, Global>,
     first: Tip,
     row: &str,
 ) -> Option<Around<R>> {

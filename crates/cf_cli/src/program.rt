@@ -23,7 +23,7 @@ use cf_cli_client::{follow_and_record, follow_on_tape, run_once};
 use cf_cli_demo::demo;
 use cf_cli_serve::serve;
 use cf_conn::Duplex;
-use cf_grow::Joins;
+use cf_grow::{Joins, Keeper};
 use cf_input::{Command, MOST_TURNS, MOST_WORKERS, Word, read_words};
 use cf_link::Link;
 use cf_loading::{load_session, load_watch};
@@ -254,6 +254,7 @@ fn threads_of(workers: u32) -> u32
 fn perform<
     R: Wait + Threads + Sync + Copy + Drop + Send + 'static,
     J: Joins + Copy + Drop + Send + 'static,
+    H: Keeper + Drop + Send + 'static,
     F: Files,
     W: Wires,
     L: Link,
@@ -263,6 +264,7 @@ fn perform<
     rt: R,
     alloc: Global,
     joins: J,
+    keeper: H,
     command: &Command,
     moment: i64,
     nonce: u64,
@@ -385,6 +387,7 @@ where
             files,
             *grow,
             joins,
+            keeper,
             file.as_str(),
             address.as_str(),
             *connections,
@@ -408,7 +411,8 @@ where
 /// `tape`, and `demo` over the peers that it adds to `played`; all three are new, nothing has passed them, they aren't
 /// finished, no call of `tape` is to fail, and `played` has no peers. `serve` goes over `link`, and starts its
 /// connections by `spawner`, and so do `sync`, `follow` and `demo` the threads that judge filters. With `--grow` it
-/// tells `joins` of each block that joins its chain. The text goes to `out`.
+/// tells `joins` of each block that joins its chain, and with `--keep` each is in `keeper` before that. The text goes
+/// to `out`.
 ///
 /// `NoMemory` may come in place of any other answer. `Usage` comes where the words ask for nothing. The watch file is
 /// judged first, then the session file: what is missing, refused or good is answered so. After that the run is made; a
@@ -431,6 +435,7 @@ where
 pub fn run<
     R: Wait + Threads + Sync + Copy + Drop + Send + 'static,
     J: Joins + Copy + Drop + Send + 'static,
+    H: Keeper + Drop + Send + 'static,
     F: Files,
     W: Wires,
     L: Link,
@@ -440,6 +445,7 @@ pub fn run<
     rt: R,
     alloc: Global,
     joins: J,
+    keeper: H,
     words: &[String],
     moment: i64,
     nonce: u64,
@@ -481,8 +487,8 @@ where
 {
     match read_words(alloc, words) {
         Ok(command) => perform(
-            rt, alloc, joins, &command, moment, nonce, files, wires, tape, played, link, spawner,
-            out, ends,
+            rt, alloc, joins, keeper, &command, moment, nonce, files, wires, tape, played, link,
+            spawner, out, ends,
         ),
         Err(Refused::No(_)) => Status::Usage,
         Err(Refused::NoMemory) => Status::NoMemory,

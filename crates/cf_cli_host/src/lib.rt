@@ -3,6 +3,7 @@
 #![tactic(auto)]
 
 mod advice;
+mod cut_off;
 mod descriptors;
 mod edge;
 mod failure;
@@ -10,6 +11,7 @@ mod faults;
 mod given;
 mod heard;
 mod joined;
+mod kept_file;
 mod listener;
 mod reasons;
 mod record;
@@ -28,6 +30,7 @@ pub use faults::{tell, tell_hint};
 pub use given::{Dials, moment, nonce, read_dials, words_of};
 pub use heard::{Front, Heard};
 pub use joined::Joined;
+pub use kept_file::KeptFile;
 pub use listener::Listener;
 pub use record::try_record;
 pub use redial::{Call, MOST_REDIAL, Redial, RedialFault, is_follow, read_call, with_turns};

@@ -11,8 +11,9 @@ ghost use Rattle.cf_answers.specs.{was_refused};
 use cf_answers::Status;
 use cf_bytes::{Failed, Files, Hash32, NoMemory, Refused};
 use cf_conn::Duplex;
-use cf_grow::{GrowingServer, Joins, Server};
+use cf_grow::{GrowingServer, Joins, Keeper, Server, Unkept};
 use cf_index::{CheckedChain, Index};
+use cf_input::Growth;
 use cf_link::{Link, ServeFail, Service, serve as serve_all};
 use cf_loading::load_chain;
 use cf_tasks::Spawner;
@@ -99,6 +100,7 @@ where
 fn serve_growing<
     R: Wait + Copy + Drop + Send + 'static,
     J: Joins + Copy + Drop + Send + 'static,
+    H: Keeper + Drop + Send + 'static,
     L: Link,
     K: Spawner,
 >(
@@ -107,6 +109,7 @@ fn serve_growing<
     index: Index,
     joins: J,
     room: u64,
+    keeper: H,
     tip_hash: &Hash32,
     address: &str,
     connections: u64,
@@ -125,7 +128,7 @@ where
     ensures fine { result ≢ Status.LinkFault → L.faults link.new ≡ L.faults link.old }
 {
     let tip = index.tip();
-    match GrowingServer::new(rt, alloc, index, joins, room, moment, nonce) {
+    match GrowingServer::new(rt, alloc, index, joins, room, keeper, moment, nonce) {
         Ok(server) => status_of(serve_at(
             alloc,
             &server,
@@ -144,14 +147,16 @@ where
 fn serve_chain<
     R: Wait + Threads + Sync + Copy + Drop + Send + 'static,
     J: Joins + Copy + Drop + Send + 'static,
+    H: Keeper + Drop + Send + 'static,
     L: Link,
     K: Spawner,
 >(
     rt: R,
     alloc: Global,
     chain: CheckedChain,
-    grow: Option<u32>,
+    grow: Option<Growth>,
     joins: J,
+    keeper: H,
     address: &str,
     connections: u64,
     moment: i64,
@@ -173,12 +178,28 @@ where
         return Status::NoMemory;
     };
     match grow {
-        Some(most) => serve_growing(
+        Some(Growth { bytes, keep: true }) => serve_growing(
             rt,
             alloc,
             index,
             joins,
-            u64::from(most),
+            u64::from(bytes),
+            keeper,
+            &tip_hash,
+            address,
+            connections,
+            moment,
+            nonce,
+            link,
+            spawner,
+        ),
+        Some(Growth { bytes, keep: false }) => serve_growing(
+            rt,
+            alloc,
+            index,
+            joins,
+            u64::from(bytes),
+            Unkept,
             &tip_hash,
             address,
             connections,
@@ -202,10 +223,12 @@ where
 }
 
 /// Serves the chain of a file of blocks to so many connections, once the file is read and judged: the chain that was
-/// loaded, or one that grows from it, by blocks of at most so many bytes in all. The link listens at the address then.
+/// loaded, or one that grows from it, by blocks of at most so many bytes in all, which the keeper keeps where that is
+/// asked for. The link listens at the address then.
 pub fn serve<
     R: Wait + Threads + Sync + Copy + Drop + Send + 'static,
     J: Joins + Copy + Drop + Send + 'static,
+    H: Keeper + Drop + Send + 'static,
     F: Files,
     L: Link,
     K: Spawner,
@@ -213,8 +236,9 @@ pub fn serve<
     rt: R,
     alloc: Global,
     files: &mut F,
-    grow: Option<u32>,
+    grow: Option<Growth>,
     joins: J,
+    keeper: H,
     file: &str,
     address: &str,
     connections: u64,
@@ -245,6 +269,7 @@ where
             chain,
             grow,
             joins,
+            keeper,
             address,
             connections,
             moment,

@@ -1,6 +1,7 @@
 pub mod Marks
 pub mod Grows
 pub mod Holding
+pub mod Keeping
 pub mod PartTexts
 pub mod Refusing
 pub mod Serving

@@ -20,6 +20,8 @@ use Rattle.cf_server.specs.declared.answering.Serving.{Serving}
 use Rattle.cf_server.specs.Replies.{messages_of, AreRepliesOf}
 use Rattle.cf_server.specs.Serving.{text_of}
 use Rattle.cf_grow.specs.Standing.{Start, Keeps, hash_in}
+use Rattle.cf_grow.specs.Keeping.{records_above}
+use Rattle.cf_bytes.specs.Outside.{with_more}
 
 -- what was told, by what is kept of it
 abbrev pub told_by : Bool → ℕ → Hash32 → TipMark
@@ -91,14 +93,19 @@ HasMomentOf old new = (begun_in new ≡ begun_in old) × (new.served.nonce ≡ o
 abbrev pub fits_on : List Block → Block → Bool
 fits_on blocks b = is_none (cause_on blocks b)
 
--- a chain that grows, and how many bytes of blocks may still join it
+-- a chain that grows, how many bytes of blocks may still join it, and the bytes that its keeper has, where they are told
 pub record Growth : Type 0 where
   pub blocks : List Block
   pub room : ℕ
+  pub kept : Option (List ℕ)
 
 -- nothing has changed, or so many bytes of the room were taken
 abbrev pub TakesRoom : ℕ → Growth → Growth → Type 0
 TakesRoom size old new = (new ≡ old) ⊎ (new.room + size ≡ old.room)
+
+-- the bytes that were kept, and behind them the records of the blocks that have joined, the lowest first
+abbrev pub KeepsWhatJoins : Growth → Growth → Type 0
+KeepsWhatJoins old new = new.kept ≡ with_more old.kept (records_above old.blocks new.blocks)
 
 -- a frame brings no block that may stand on a chain
 abbrev pub BringsNone : List Block → Frame → Type 0

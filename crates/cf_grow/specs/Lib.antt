@@ -1,4 +1,5 @@
 pub mod Held
+pub mod Keeping
 pub mod Growing
 pub mod Serving
 pub mod Standing

@@ -1,20 +1,24 @@
 //! A chain that grows while it is served.
-ghost use Rattle.std.specs.Prelude.{◌≡◌, length, Ok, IfOk, OnOk, OnErr, true};
-ghost use Rattle.cf_block.specs.{IsBlock};
+ghost use Rattle.std.specs.Prelude.{◌≡◌, ◌≤◌, ◌+◌, ◌∷◌, ◌++◌, [], None, length, Ok, IfOk, OnOk, OnErr, true};
+ghost use Rattle.cf_block.specs.{AreTxids, IsBlock};
+ghost use Rattle.cf_bytes.specs.{with_more};
 ghost use Rattle.cf_chain.specs.{IsGoodChain, grown};
-ghost use Rattle.cf_grow.specs.Growing.{HasMark, HasMomentOf, IsStep, Refuses, RefusesBy, TakesRoom, answer_at, fits_on, height_joined, joined_in, mark_of};
+ghost use Rattle.cf_grow.specs.Growing.{HasMark, HasMomentOf, IsStep, KeepsWhatJoins, Refuses, RefusesBy, TakesRoom, answer_at, fits_on, height_joined, joined_in, mark_of};
 ghost use Rattle.cf_grow.specs.Standing.{Keeps};
 ghost use Rattle.cf_grow.specs.Held.{text_all};
 ghost use Rattle.cf_msg.specs.declared.msg.Msg.TheVariants.{Block as BlockMessage};
 ghost use Rattle.cf_msg.specs.{HasSpelling, message_of as message_in};
 ghost use Rattle.cf_server.specs.{text_of};
+ghost use Rattle.cf_walk.specs.{cause_on, record_spelling};
 
 use crate::held::hold_answer;
+use crate::keeper::Keeper;
 use crate::mark::{ServedMark, TakeFail};
 use crate::parts::Parts;
+use crate::record::record_of;
 use crate::refused::RefusedBlocks;
 use crate::taking::take_at;
-use cf_block::Block;
+use cf_block::{Block, TxIds};
 use cf_bytes::{NoMemory, Refused};
 use cf_frame::Frame;
 use cf_index::Index;
@@ -64,59 +68,94 @@ fn answer_held(
     }
 }
 
-/// A chain that grows while it is served. Contracts see the list of its blocks above genesis, the lowest first, and how
-/// many bytes of blocks may still join it.
+/// A chain that grows while it is served. Contracts see the list of its blocks above genesis, the lowest first, how many
+/// bytes of blocks may still join it, and the bytes that its keeper has, where they are told.
 #[derive(Drop)]
-pub struct Grown {
+pub struct Grown<K: Keeper> {
     index: Index,
     room: u64,
     // Blocks that may not stand on the chain as it is.
     refused: RefusedBlocks,
+    // Has the record of each block that has joined.
+    keeper: K,
 }
 
-impl Model for Grown {
+impl<K: Keeper> Model for Grown<K> {
     ghost use Rattle.std.specs.List.{AllByRecursion};
     ghost use Rattle.cf_grow.specs.Growing.{BringsNone, Growth};
 
     ghost Value = { Growth };
 
-    ghost view = { λ s. record { blocks = s.index; room = s.room } };
+    ghost view = { λ s. record { blocks = s.index; room = s.room; kept = K.kept s.keeper } };
 
     ghost invariant = { λ s. AllByRecursion (BringsNone s.index) s.refused };
 }
 
-impl Grown {
-    /// A chain that was loaded, which so many bytes of blocks may join in all.
-    pub fn new(alloc: Global, index: Index, room: u64) -> Grown
-        ensures { result ≡ record { blocks = index; room = room } }
+impl<K: Keeper> Grown<K> {
+    /// A chain that was loaded, which so many bytes of blocks may join in all, and who keeps these.
+    pub fn new(alloc: Global, index: Index, room: u64, keeper: K) -> Grown<K>
+        ensures { result ≡ record { blocks = index; room = room; kept = K.kept keeper } }
     {
         Grown {
             index,
             room,
             refused: RefusedBlocks::new(alloc),
+            keeper,
         }
     }
 
-    // Puts the block of a frame on the chain, where it may stand there. Where the frame's bytes have no room no memory
-    // is found.
-    #[tactic(auto, using(crate::proofs::Grows::put_so))]
+    // Puts a block on the chain that may stand there, once its record is kept. Where it isn't put on nothing is kept.
+    #[tactic(auto, using(crate::proofs::Keeping::taken_back))]
+    fn join(
+        &mut self,
+        alloc: Global,
+        block: Block,
+        txids: &TxIds,
+        size: u64,
+    ) -> Result<(), NoMemory>
+        requires block { IsBlock block }
+        requires fits { cause_on self.old.blocks block ≡ None }
+        requires hashes { AreTxids txids.now block.txs }
+        requires room { size ≤ self.old.room }
+        ensures blocks { OnOk result (self.new.blocks ≡ self.old.blocks ++ block ∷ []) }
+        ensures room { OnOk result (self.new.room + size ≡ self.old.room) }
+        ensures kept { OnOk result (self.new.kept ≡ with_more self.old.kept (record_spelling block)) }
+        ensures err { OnErr result (self.new ≡ self.old) }
+    {
+        let record = record_of(alloc, &block)?;
+        let Ok(()) = self.keeper.keep(record.as_slice()) else {
+            return Err(NoMemory);
+        };
+        match self.index.put(alloc, block, txids) {
+            Ok(()) => {
+                self.room -= size;
+                self.refused.forget();
+                Ok(())
+            }
+            Err(NoMemory) => {
+                self.keeper.take_back(record.len());
+                Err(NoMemory)
+            }
+        }
+    }
+
+    // Puts the block of a frame on the chain, where it may stand there. Where the frame's bytes have no room, or the
+    // block's record isn't kept, no memory is found.
+    #[tactic(auto, using(crate::proofs::Grows::put_so, crate::proofs::Keeping::kept_so))]
     fn put(&mut self, alloc: Global, frame: Frame, block: Block) -> Result<(), NoMemory>
         requires block { IsBlock block }
         requires brings { message_in frame ≡ Ok (BlockMessage block) }
         ensures ok { OnOk result (self.new.blocks ≡ grown fits_on self.old.blocks true (BlockMessage block)) }
         ensures room { OnOk result (TakesRoom (length frame.payload) self.old self.new) }
+        ensures kept { OnOk result (KeepsWhatJoins self.old self.new) }
         ensures err { OnErr result (self.new ≡ self.old) }
     {
         let size = frame.payload.len() as u64;
         if self.room < size {
             return Err(NoMemory);
         }
-        match self.index.add(alloc, block) {
-            Ok(()) => {
-                self.room -= size;
-                self.refused.forget();
-                Ok(())
-            }
+        match self.index.judge(alloc, &block) {
+            Ok(txids) => self.join(alloc, block, &txids, size),
             Err(Refused::No(_cause)) => {
                 self.refused.keep(frame);
                 Ok(())
@@ -126,12 +165,13 @@ impl Grown {
     }
 
     // Puts the block of a frame on the chain, where it may stand there and wasn't refused lately.
-    #[tactic(auto, using(crate::proofs::Grows::stays_refused))]
+    #[tactic(auto, using(crate::proofs::Grows::stays_refused, crate::proofs::Keeping::keeps_none))]
     fn put_new(&mut self, alloc: Global, frame: Frame, block: Block) -> Result<(), NoMemory>
         requires block { IsBlock block }
         requires brings { message_in frame ≡ Ok (BlockMessage block) }
         ensures ok { OnOk result (self.new.blocks ≡ grown fits_on self.old.blocks true (BlockMessage block)) }
         ensures room { OnOk result (TakesRoom (length frame.payload) self.old self.new) }
+        ensures kept { OnOk result (KeepsWhatJoins self.old self.new) }
         ensures err { OnErr result (self.new ≡ self.old) }
     {
         if self.refused.has(&frame) {
@@ -141,11 +181,13 @@ impl Grown {
     }
 
     // Puts the block of a message on the chain, where its sender was met and the block may stand there.
+    #[tactic(auto, using(crate::proofs::Keeping::keeps_none))]
     fn grow(&mut self, alloc: Global, met: bool, frame: Frame, msg: Msg) -> Result<(), NoMemory>
         requires spelled { HasSpelling msg }
         requires brings { message_in frame ≡ Ok msg }
         ensures ok { OnOk result (self.new.blocks ≡ grown fits_on self.old.blocks met msg) }
         ensures room { OnOk result (TakesRoom (length frame.payload) self.old self.new) }
+        ensures kept { OnOk result (KeepsWhatJoins self.old self.new) }
         ensures err { OnErr result (self.new ≡ self.old) }
     {
         if !met {
@@ -158,8 +200,10 @@ impl Grown {
     }
 
     /// One step: the chain as it stands answers the message of a frame, and then the block that it brings is put on,
-    /// where it may stand there. It is refused where the chain hasn't the mark's hash at its height, or no longer has
-    /// its first tip, and where no memory is found, or no room for a block; after that nothing has changed.
+    /// where it may stand there, once its record is kept: what is kept is what was kept before, and the record of the
+    /// block that has joined. It is refused where the chain hasn't the mark's hash at its height, or no longer has its
+    /// first tip, and where no memory is found, no room for a block, or its record can't be kept; after that nothing
+    /// has changed.
     pub fn take(
         &mut self,
         alloc: Global,
@@ -176,6 +220,7 @@ impl Grown {
         ensures mark { OnOk result (mark_of mark.new ≡ (answer_at mark.old self.old.blocks msg).mark) }
         ensures grown { OnOk result (self.new.blocks ≡ grown fits_on self.old.blocks mark.old.served.seen msg) }
         ensures room { OnOk result (TakesRoom (length frame.payload) self.old self.new) }
+        ensures keeps_all { OnOk result (KeepsWhatJoins self.old self.new) }
         ensures joined { IfOk result (λ taken. taken.joined ≡ joined_in self.old.blocks self.new.blocks) }
         ensures moment { HasMomentOf mark.old mark.new }
         ensures refused { Refuses self.old.blocks mark.old result }
@@ -210,12 +255,12 @@ fn height_above(before: u32, now: u32) -> Option<u32>
 /// One step under the lock: whatever others have put on the chain, the answer is that of a good chain on which the mark
 /// stands, and which still has its first tip; the height is told of a block that joins that chain. It is refused only
 /// by a good chain that hasn't the mark's hash at its height, or no longer has its first tip, with both hashes, and
-/// where no memory is found, or no room for a block. The lock is let go with the return, and what is answered needs it
-/// no more.
-pub fn take_locked<R: Wait>(
+/// where no memory is found, no room for a block, or its record can't be kept. The lock is let go with the return, and
+/// what is answered needs it no more.
+pub fn take_locked<R: Wait, K: Keeper>(
     rt: &R,
     alloc: Global,
-    grown: &Mutex<Grown>,
+    grown: &Mutex<Grown<K>>,
     mark: &mut ServedMark,
     frame: Frame,
     msg: Msg,

@@ -10,6 +10,7 @@ ghost use Rattle.cf_server.specs.{Idles};
 use crate::ending::Ending;
 use crate::grown::{Grown, take_locked};
 use crate::joins::Joins;
+use crate::keeper::Keeper;
 use crate::mark::{ServedMark, Tip};
 use crate::sending::send_parts;
 use cf_bytes::Refused;
@@ -45,10 +46,10 @@ fn tell<J: Joins>(joins: &J, height: Option<u32>) {
 
 // Reads a frame's message, takes one step under the lock, and writes what the message is answered with once the lock is
 // let go. Neither the frame nor the message is held while it is written.
-fn answer_frame<R: Wait, J: Joins, C: Duplex>(
+fn answer_frame<R: Wait, J: Joins, K: Keeper, C: Duplex>(
     rt: &R,
     alloc: Global,
-    grown: &Mutex<Grown>,
+    grown: &Mutex<Grown<K>>,
     joins: &J,
     conn: &mut C,
     mark: &mut ServedMark,
@@ -96,10 +97,10 @@ fn next_frame(framer: &mut Framer) -> Result<Option<Frame>, Ending>
 }
 
 // Takes and answers the whole frames that wait.
-fn take_frames<R: Wait, J: Joins, C: Duplex>(
+fn take_frames<R: Wait, J: Joins, K: Keeper, C: Duplex>(
     rt: &R,
     alloc: Global,
-    grown: &Mutex<Grown>,
+    grown: &Mutex<Grown<K>>,
     joins: &J,
     conn: &mut C,
     session: &mut Session,
@@ -127,10 +128,10 @@ fn take_frames<R: Wait, J: Joins, C: Duplex>(
 }
 
 // Takes the next piece of the connection's bytes.
-fn take_piece<R: Wait, J: Joins, C: Duplex>(
+fn take_piece<R: Wait, J: Joins, K: Keeper, C: Duplex>(
     rt: &R,
     alloc: Global,
-    grown: &Mutex<Grown>,
+    grown: &Mutex<Grown<K>>,
     joins: &J,
     conn: &mut C,
     session: &mut Session,
@@ -159,10 +160,10 @@ fn take_piece<R: Wait, J: Joins, C: Duplex>(
 /// chain that has it, and on which the mark stands that the message before has left. It ends as from a chain that
 /// stands still, or where the chain is another than was told or than it began with, with the hash of then and the one
 /// there. Nothing is written while the lock is held. Each block that joins is told of, once the lock is let go.
-pub fn serve_grown<R: Wait, J: Joins, C: Duplex>(
+pub fn serve_grown<R: Wait, J: Joins, K: Keeper, C: Duplex>(
     rt: &R,
     alloc: Global,
-    grown: &Mutex<Grown>,
+    grown: &Mutex<Grown<K>>,
     joins: &J,
     conn: &mut C,
     moment: i64,

@@ -238,19 +238,35 @@ impl Index {
     /// Puts a block on the chain where the chain with it is good. Otherwise nothing has changed, and the cause is
     /// answered. The chain's coins are found by the first call that comes to them, and kept, whether it puts its block
     /// on or not; want of memory may lose them again.
-    #[tactic(auto, using(cf_chain::proofs::Bounds::block_few))]
     pub fn add(&mut self, alloc: Global, block: Block) -> Result<(), Refused<RecordCause>>
         requires block { IsBlock block }
         ensures exact { FindsCause (cause_on self.old block) result }
         ensures more { OnOk result (self.new ≡ self.old ++ block ∷ []) }
         ensures kept { OnErr result (self.new ≡ self.old) }
     {
+        let txids = match self.judge(alloc, &block) {
+            Ok(txids) => txids,
+            Err(e) => return Err(e),
+        };
+        match self.put(alloc, block, &txids) {
+            Ok(()) => Ok(()),
+            Err(NoMemory) => Err(Refused::NoMemory),
+        }
+    }
+
+    /// Judges whether a block may stand on the chain, which stays as it is. Answers the hashes of its transactions, by
+    /// which it is put on then, or the cause. The chain's coins are found by the first call that comes to them, and
+    /// kept.
+    pub fn judge(&mut self, alloc: Global, block: &Block) -> Result<TxIds, Refused<RecordCause>>
+        requires block { IsBlock block.now }
+        ensures exact { FindsCause (cause_on self.old block.now) result }
+        ensures hashes { IfOk result (λ ids. AreTxids ids block.now.txs) }
+        ensures same { self.new ≡ self.old }
+    {
         let hash = block_hash(&block.header);
-        let time = block.header.time;
         let tip = self.top_hash();
-        let last = self.last_header();
         let height = self.blocks.len();
-        let txids = match judge_before_coins(alloc, &tip, &self.past, height, &block, &hash) {
+        let txids = match judge_before_coins(alloc, &tip, &self.past, height, block, &hash) {
             Ok(txids) => txids,
             Err(e) => return Err(e),
         };
@@ -258,15 +274,30 @@ impl Index {
             alloc,
             &mut self.coins,
             self.blocks.as_slice(),
-            &block,
+            block,
             txids.as_slice(),
         ) {
-            Ok(()) => {}
-            Err(e) => return Err(e),
+            Ok(()) => Ok(txids),
+            Err(e) => Err(e),
         }
+    }
+
+    /// Puts a block on the chain that may stand there, with the hashes of its transactions. Where no memory is found
+    /// the chain hasn't changed.
+    #[tactic(auto, using(cf_chain::proofs::Bounds::block_few))]
+    pub fn put(&mut self, alloc: Global, block: Block, txids: &TxIds) -> Result<(), NoMemory>
+        requires block { IsBlock block }
+        requires fits { cause_on self.old block ≡ None }
+        requires hashes { AreTxids txids.now block.txs }
+        ensures more { OnOk result (self.new ≡ self.old ++ block ∷ []) }
+        ensures kept { OnErr result (self.new ≡ self.old) }
+    {
+        let hash = block_hash(&block.header);
+        let time = block.header.time;
+        let last = self.last_header();
         let mut coins = take_coins(alloc, &mut self.coins, self.blocks.as_slice())?;
         let Ok(spent) = spend_block(alloc, &mut coins, &block, txids.as_slice()) else {
-            return Err(Refused::NoMemory);
+            return Err(NoMemory);
         };
         let bare = bare_filter(alloc, &block, &hash, spent.as_slice())?;
         let filter = with_header(bare, &last);

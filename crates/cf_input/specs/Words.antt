@@ -12,6 +12,7 @@ use Rattle.cf_input.specs.Number.{number_at_most, number_within}
 use Rattle.cf_input.specs.Name.{is_name}
 use Rattle.cf_bytes.specs.Peers.{most_peers}
 use Rattle.cf_input.specs.declared.words.Command.{Command}
+use Rattle.cf_input.specs.declared.words.Growth.{Growth}
 use Rattle.cf_input.specs.declared.words.Command.TheVariants.{Address, Check, Demo, Filter, Follow, Make, Prove, Replay, Scan, Serve, Sync}
 
 -- an argument that has to be there
@@ -83,11 +84,11 @@ abbrev pub check_app : App
 check_app = with_rule (with_rule (with_rule (new_app (codes "check")) (flag_rule (codes "witness"))) (needed (new_rule (codes "file")))) (new_rule (codes "blocks"))
 
 -- `serve` with its options alone: serve [--grow] [--endless] [--connections N] [--at-once N] [--budget N]
--- [--grow-bytes N]
+-- [--grow-bytes N] [--keep]
 abbrev pub serve_options_app : App
 serve_options_app =
-    with_rule (with_rule (with_rule (with_rule (with_rule (with_rule (new_app (codes "serve")) (flag_rule (codes "grow"))) (flag_rule (codes "endless")))
-    (option_rule (codes "connections"))) (option_rule (codes "at-once"))) (option_rule (codes "budget"))) (option_rule (codes "grow-bytes"))
+    with_rule (with_rule (with_rule (with_rule (with_rule (with_rule (with_rule (new_app (codes "serve")) (flag_rule (codes "grow"))) (flag_rule (codes "endless")))
+    (option_rule (codes "connections"))) (option_rule (codes "at-once"))) (option_rule (codes "budget"))) (option_rule (codes "grow-bytes"))) (flag_rule (codes "keep"))
 
 -- the same, and then FILE ADDRESS
 abbrev pub serve_app : App
@@ -206,11 +207,13 @@ abbrev pub bytes_of_growth : Option Text → Option ℕ
 bytes_of_growth None = Some 1073741824
 bytes_of_growth (Some text) = number_within most_growth text
 
--- how a served chain grows: not at all without `--grow`, and no number may be given then; else by so many bytes of blocks
-abbrev pub growth_of : Bool → Option Text → Option (Option ℕ)
-growth_of false None = Some None
-growth_of false (Some text) = None
-growth_of true text = option_map (λ most. Some most) (bytes_of_growth text)
+-- How a served chain grows: not at all without `--grow`, and neither `--keep` nor a number may be given then; else by so many bytes of blocks, and kept with
+-- `--keep` alone.
+abbrev pub growth_of : Bool → Bool → Option Text → Option (Option Growth)
+growth_of false false None = Some None
+growth_of false true text = None
+growth_of false false (Some text) = None
+growth_of true keep text = option_map (λ most. Some (record { bytes = most; keep = keep })) (bytes_of_growth text)
 
 -- the greatest height that may be asked for
 abbrev pub most_height : ℕ
@@ -315,7 +318,7 @@ abbrev pub check_of : Met → Option Command
 check_of met = option_and_then (λ file. Some (Check (is_set (codes "witness") met) file (text_of (codes "blocks") met))) (text_of (codes "file") met)
 
 -- the command `serve`, by its numbers; an address has the form of a peer's name
-abbrev pub serve_with : ℕ → ℕ → ℕ → Option ℕ → Met → Option Command
+abbrev pub serve_with : ℕ → ℕ → ℕ → Option Growth → Met → Option Command
 serve_with count at_once budget grow met =
     option_and_then (λ file. option_and_then (λ address.
     if is_name address then Some (Serve grow count at_once budget file address) else None)
@@ -326,7 +329,7 @@ abbrev pub serve_of : Met → Option Command
 serve_of met =
     option_and_then (λ count. option_and_then (λ at_once. option_and_then (λ budget. option_and_then (λ grow.
     serve_with count at_once budget grow met)
-    (growth_of (is_set (codes "grow") met) (text_of (codes "grow-bytes") met)))
+    (growth_of (is_set (codes "grow") met) (is_set (codes "keep") met) (text_of (codes "grow-bytes") met)))
     (budget_of (text_of (codes "budget") met))) (at_once_of (text_of (codes "at-once") met)))
     (count_of (is_set (codes "endless") met) (text_of (codes "connections") met))
 

@@ -22,7 +22,8 @@ pub use session::{MOST_SECONDS, Session, SessionCause, SessionFault, read_sessio
 pub use text::{PeerNames, Word, is_name};
 pub use watch_file::{WatchCause, WatchFileFault, read_watch};
 pub use words::{
-    Command, ENDLESS, MOST_AT_ONCE, MOST_BUDGET, MOST_CONNECTIONS, MOST_GROWTH, MOST_HEIGHT,
-    MOST_MADE, MOST_PLAYED, MOST_SEED, MOST_TURNS, MOST_WORKERS, USUAL_AT_ONCE, USUAL_BUDGET,
-    USUAL_GROWTH, USUAL_WORKERS, Usage, is_help, is_help_word, is_version, read_words,
+    Command, ENDLESS, Growth, MOST_AT_ONCE, MOST_BUDGET, MOST_CONNECTIONS, MOST_GROWTH,
+    MOST_HEIGHT, MOST_MADE, MOST_PLAYED, MOST_SEED, MOST_TURNS, MOST_WORKERS, USUAL_AT_ONCE,
+    USUAL_BUDGET, USUAL_GROWTH, USUAL_WORKERS, Usage, is_help, is_help_word, is_version,
+    read_words,
 };

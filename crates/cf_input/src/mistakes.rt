@@ -47,10 +47,15 @@ fn count_mistake(alloc: Global, matches: &ArgMatches) -> Result<String, NoMemory
     ranged(alloc, "N of --connections", 1, MOST_CONNECTIONS)
 }
 
-// What is wrong with a number of bytes that counts for nothing.
+// What is wrong with words of how a chain grows.
 fn growth_mistake(alloc: Global, matches: &ArgMatches) -> Result<String, NoMemory> {
     if !is_set(matches, "grow") {
-        return Ok(format!(in alloc; "--grow-bytes goes with --grow alone")?);
+        let word = if is_set(matches, "keep") {
+            "--keep"
+        } else {
+            "--grow-bytes"
+        };
+        return Ok(format!(in alloc; "{word} goes with --grow alone")?);
     }
     ranged(alloc, "N of --grow-bytes", 1, MOST_GROWTH)
 }
@@ -64,7 +69,13 @@ fn serve_mistake(alloc: Global, matches: &ArgMatches) -> Result<String, NoMemory
         ranged(alloc, "N of --at-once", 1, MOST_AT_ONCE)
     } else if budget_of(text_of(matches, "budget")).is_none() {
         ranged(alloc, "N of --budget", 1, MOST_BUDGET)
-    } else if growth_of(is_set(matches, "grow"), text_of(matches, "grow-bytes")).is_none() {
+    } else if growth_of(
+        is_set(matches, "grow"),
+        is_set(matches, "keep"),
+        text_of(matches, "grow-bytes"),
+    )
+    .is_none()
+    {
         growth_mistake(alloc, matches)
     } else {
         unnamed(alloc, "ADDRESS")

@@ -3,7 +3,7 @@ ghost use Rattle.std.specs.Prelude.{◌≡◌, ◌==◌, IfOk, IfErr, [], map, f
 ghost use Rattle.std.specs.List.{list_any};
 ghost use Rattle.clap.specs.Words.{App, Rule, app_of, rule_of, new_rule, subcommand_of, subcommand_rows_of, fault_of, with_rule};
 ghost use Rattle.clap.specs.declared.builder.command.Command.TheViews.{out-Command as fields_of};
-ghost use Rattle.cf_input.specs.Words.{flag_rule, option_rule, several, needed, replay_app, options_app, peers_app, check_app, serve_app, one_app, two_app, make_app, with_sub, client_app, cli_app, text_of, texts_of, is_met, is_set, turns_of, workers_of, connections_of, height_of, seed_of, made_of, played_of, replay_of, over_peers, over_peers_of, scan_of, filter_of, address_of, hash_in, prove_of, check_of, serve_of, make_of, demo_of, HasFewPeers, asked_of, is_faultless, command_of, is_help_word, is_version_word, serve_options_app, count_of, at_once_of, budget_of, growth_of, serve_with};
+ghost use Rattle.cf_input.specs.Words.{flag_rule, option_rule, several, needed, replay_app, options_app, peers_app, check_app, serve_app, one_app, two_app, make_app, with_sub, client_app, cli_app, text_of, texts_of, is_met, is_set, turns_of, workers_of, connections_of, bytes_of_growth, height_of, seed_of, made_of, played_of, replay_of, over_peers, over_peers_of, scan_of, filter_of, address_of, hash_in, prove_of, check_of, serve_of, make_of, demo_of, HasFewPeers, asked_of, is_faultless, command_of, is_help_word, is_version_word, serve_options_app, count_of, at_once_of, budget_of, growth_of, serve_with};
 ghost use Rattle.cf_input.specs.Commands.{GivesOrUsage, IfUsage, refusal_of};
 
 use crate::number::{number_at_most, number_within};
@@ -65,6 +65,13 @@ pub const MOST_MADE: u32 = HEIGHT_LIMIT;
 /// At most this many blocks are played: a peer beside has two more.
 pub const MOST_PLAYED: u32 = HEIGHT_LIMIT - 2;
 
+/// How a served chain grows: by so many bytes of blocks at most, and whether those that join are kept in its file.
+#[derive(Clone, Copy, Debug, PartialEq, Eq)]
+pub struct Growth {
+    pub bytes: u32,
+    pub keep: bool,
+}
+
 /// What the words ask for.
 #[derive(Drop)]
 pub enum Command {
@@ -119,10 +126,10 @@ pub enum Command {
         blocks: Option<Word>,
     },
     /// The chain of a block file, served to so many connections to an address: as it is, or grown by what they bring.
-    /// A chain that grows has the number of bytes of blocks that may join. At most `at_once` of them are served at a time, and all together hold at most `budget` megabytes of large
+    /// At most `at_once` of them are served at a time, and all together hold at most `budget` megabytes of large
     /// messages.
     Serve {
-        grow: Option<u32>,
+        grow: Option<Growth>,
         connections: u64,
         at_once: u32,
         budget: u32,
@@ -269,7 +276,8 @@ fn serve_options<'a>(alloc: Global) -> Result<clap::Command<'a>, AllocError>
     let command = with_arg(command, option_arg(alloc, "connections"));
     let command = with_arg(command, option_arg(alloc, "at-once"));
     let command = with_arg(command, option_arg(alloc, "budget"));
-    with_arg(command, option_arg(alloc, "grow-bytes"))
+    let command = with_arg(command, option_arg(alloc, "grow-bytes"));
+    with_arg(command, flag_arg(alloc, "keep"))
 }
 
 fn serve_command<'a>(alloc: Global) -> Result<clap::Command<'a>, AllocError>
@@ -482,20 +490,32 @@ pub(crate) fn budget_of(text: Option<&str>) -> Option<u32>
     }
 }
 
-/// How a served chain grows: not at all without `--grow`, and `--grow-bytes` may not be given then; else by so many
-/// bytes of blocks as `--grow-bytes` says, or 1,073,741,824 where no number is given.
-pub(crate) fn growth_of(grow: bool, text: Option<&str>) -> Option<Option<u32>>
-    ensures { result ≡ growth_of grow (option_map (λ s. s.now) text.entry) }
+// By so many bytes of blocks a served chain may grow.
+fn bytes_of_growth(text: Option<&str>) -> Option<u32>
+    ensures { result ≡ bytes_of_growth (option_map (λ s. s.now) text.entry) }
+{
+    match text {
+        Some(text) => number_within(text.as_bytes(), MOST_GROWTH),
+        None => Some(USUAL_GROWTH),
+    }
+}
+
+/// How a served chain grows: not at all without `--grow`, and neither `--keep` nor `--grow-bytes` may be given then;
+/// else by so many bytes of blocks as `--grow-bytes` says, or 1,073,741,824 where no number is given, and kept with
+/// `--keep` alone.
+pub(crate) fn growth_of(grow: bool, keep: bool, text: Option<&str>) -> Option<Option<Growth>>
+    ensures { result ≡ growth_of grow keep (option_map (λ s. s.now) text.entry) }
 {
     if !grow {
-        return if text.is_some() { None } else { Some(None) };
+        return if keep || text.is_some() {
+            None
+        } else {
+            Some(None)
+        };
     }
-    match text {
-        Some(text) => match number_within(text.as_bytes(), MOST_GROWTH) {
-            Some(most) => Some(Some(most)),
-            None => None,
-        },
-        None => Some(Some(USUAL_GROWTH)),
+    match bytes_of_growth(text) {
+        Some(bytes) => Some(Some(Growth { bytes, keep })),
+        None => None,
     }
 }
 
@@ -668,7 +688,7 @@ fn serve_with(
     connections: u64,
     at_once: u32,
     budget: u32,
-    grow: Option<u32>,
+    grow: Option<Growth>,
     matches: &ArgMatches,
 ) -> Result<Command, Refused<Usage>>
     ensures exact { GivesOrUsage (serve_with connections at_once budget grow (subcommand_rows_of matches.now)) result }
@@ -700,7 +720,8 @@ fn read_serve(alloc: Global, matches: &ArgMatches) -> Result<Command, Refused<Us
     let at_once = at_once_of(text_of(matches, "at-once")).ok_or(Usage)?;
     let budget = budget_of(text_of(matches, "budget")).ok_or(Usage)?;
     let grow = is_set(matches, "grow");
-    let grow = growth_of(grow, text_of(matches, "grow-bytes")).ok_or(Usage)?;
+    let keep = is_set(matches, "keep");
+    let grow = growth_of(grow, keep, text_of(matches, "grow-bytes")).ok_or(Usage)?;
     serve_with(alloc, connections, at_once, budget, grow, matches)
 }
 

@@ -7,7 +7,7 @@ use cf_answers::Status;
 use cf_bytes::{MapFiles, VecSink};
 use cf_cli::run;
 use cf_conn::{Duplex, MemoryConn};
-use cf_grow::Nobody;
+use cf_grow::{Nobody, Unkept};
 use cf_link::{Link, ListLink};
 use cf_played::Played;
 use cf_tasks::Spawner;
@@ -45,6 +45,7 @@ where
         rt,
         alloc,
         Nobody,
+        Unkept,
         words,
         at.0,
         at.1,

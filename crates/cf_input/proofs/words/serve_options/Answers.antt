@@ -17,7 +17,9 @@ returns-clause-app c =
     let three = c.with_arg-command-3.ensures.app (with_rule (with_rule none grow) endless) connections two c.option_arg.ensures.0 in
     let four = c.with_arg-command-4.ensures.app (with_rule (with_rule (with_rule none grow) endless) connections) at_once three c.option_arg-2.ensures.0 in
     let five = c.with_arg-command-5.ensures.app (with_rule (with_rule (with_rule (with_rule none grow) endless) connections) at_once) budget four c.option_arg-3.ensures.0 in
-    c.with_arg.ensures.app (with_rule (with_rule (with_rule (with_rule (with_rule none grow) endless) connections) at_once) budget) bytes five c.option_arg-4.ensures.0
+    let six = c.with_arg-command-6.ensures.app (with_rule (with_rule (with_rule (with_rule (with_rule none grow) endless) connections) at_once) budget) bytes five c.option_arg-4.ensures.0 in
+    c.with_arg.ensures.app (with_rule (with_rule (with_rule (with_rule (with_rule (with_rule none grow) endless) connections) at_once) budget) bytes) (flag_rule (codes "keep")) six
+    c.flag_arg-3.ensures.0
 
 pub returns-clause-globals : goal.returns-clause-globals
 returns-clause-globals c = c.with_arg.ensures.globals

@@ -9,9 +9,9 @@ use Rattle.cf_grow.specs.Growing.{BringsNone}
 use Rattle.cf_grow.proofs.Grows.{brings_none}
 use Rattle.cf_grow.proofs.grown.Grown.put.Goals as goal
 
-pub invariant_of-self-in-Err-No : goal.invariant_of-self-in-Err-No
-invariant_of-self-in-Err-No c =
+pub invariant_of-self-in-No-1 : goal.invariant_of-self-in-No-1
+invariant_of-self-in-No-1 g c =
     let index = c.self.inside.index in
     let bad = subst (λ (e : Refused RecordCause). RefusesFor (cause_on index c.args.block) e) c.in-Err-No.field-0-is c.in-Err-No.ensures.exact in
-    subst (λ (bs : List Block). AllByRecursion (BringsNone bs) c.keep.new.self) (sym c.in-Err-No.ensures.kept)
+    subst (λ (bs : List Block). AllByRecursion (BringsNone bs) c.keep.new.self) (sym c.in-Err-No.ensures.same)
     (c.keep.ensures index c.self.invariant (brings_none index c.args.block c.args.frame c.in-Err-No._cause c.requires.brings bad))
