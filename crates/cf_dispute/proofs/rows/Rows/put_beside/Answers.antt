@@ -1,7 +1,7 @@
 use Rattle.std.proofs.Common.{false, refl, rules}
 use Rattle.slab.specs.Slab.{get}
 use Rattle.cf_dispute.specs.declared.rows.Row.{Row}
-use Rattle.cf_dispute.proofs.RowLaws.{joined_table, joined_sets, added_sets, crowded_table, crowded_same, crowded_beside, crowded_none, sets_after, same_after}
+use Rattle.cf_dispute.proofs.RowLaws.{joined_table, joined_sets, added_sets, crowded_same, sets_after}
 use Rattle.cf_dispute.proofs.rows.Rows.put_beside.Goals as goal
 
 pub returns-in-Some : goal.returns-in-Some
