@@ -22,12 +22,12 @@ returns-clause-exact c =
     let block = c.args.block.now in
     let tip = c.top_hash-tip.ensures ∙ ap (λ (bs : List Block). tip_hash (headers_of bs)) (sym c.self.view_is) in
     elim c.match-judge_by_kept.branch [
-      in-Ok-judge_by_kept w ↦ subst (FindsCause (cause_on c.args.self.now block)) (sym w.result-is)
-        (sym (ap (λ (bs : List Block). cause_on bs block) c.self.view_is)
-        ∙ stands blocks block _ _ _ _ tip c.self.invariant.1.timed c.len-height.ensures c.in-Ok.ensures.exact
-        (ap (coins_after empty) c.as_slice.ensures) w.in-Ok-judge_by_kept.ensures.exact)
-    | in-Err-judge_by_kept w ↦ subst (FindsCause (cause_on c.args.self.now block)) (sym w.result-is)
-        (subst (λ (bs : List Block). RefusesFor (cause_on bs block) w.in-Err-judge_by_kept.e) c.self.view_is
-        (refused_coins blocks block _ _ _ _ w.in-Err-judge_by_kept.e tip c.self.invariant.1.timed c.len-height.ensures c.in-Ok.ensures.exact
-        (ap (coins_after empty) c.as_slice.ensures) w.in-Err-judge_by_kept.ensures.exact))
+      | in-Ok-judge_by_kept w ↦ subst (FindsCause (cause_on c.args.self.now block)) (sym w.result-is)
+          (sym (ap (λ (bs : List Block). cause_on bs block) c.self.view_is)
+          ∙ stands blocks block _ _ _ _ tip c.self.invariant.1.timed c.len-height.ensures c.in-Ok.ensures.exact
+          (ap (coins_after empty) c.as_slice.ensures) w.in-Ok-judge_by_kept.ensures.exact)
+      | in-Err-judge_by_kept w ↦ subst (FindsCause (cause_on c.args.self.now block)) (sym w.result-is)
+          (subst (λ (bs : List Block). RefusesFor (cause_on bs block) w.in-Err-judge_by_kept.e) c.self.view_is
+          (refused_coins blocks block _ _ _ _ w.in-Err-judge_by_kept.e tip c.self.invariant.1.timed c.len-height.ensures c.in-Ok.ensures.exact
+          (ap (coins_after empty) c.as_slice.ensures) w.in-Err-judge_by_kept.ensures.exact))
     ]
