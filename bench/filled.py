@@ -7,10 +7,12 @@ run unless some are:
     askers    40 peers ask for 1,000 filters again and again, and read them, of a chain that grows; how long a ping waits beside them
     blocks    60 blocks of 1,000,000 bytes are brought to a chain that grows: what is held then
     bad       four bring the same bad block of 990,000 bytes over and over: what a block costs, and how long a ping waits beside them
+    judged    four bring bad blocks of thousands of transactions, each another, and one of them good ones between them: the same
 
 The figures are printed, and the status is 1 where one is above its bound: EACH bytes for a peer that reads nothing, WAIT seconds for a ping.
 """
 import argparse
+import functools
 import os
 import resource
 import socket
@@ -257,7 +259,49 @@ def bad(program, file, names, top):
     return [f"a ping waited more than {WAIT} s"] if max(waits) > WAIT else []
 
 
-CASES = {"unread": unread, "askers": askers, "blocks": blocks, "bad": bad}
+def in_a_line(coin, count):
+    """So many transactions, of which each spends the one before, the first one this coin."""
+    for _ in range(count):
+        tx = b"\1\0\0\0\1" + coin + bytes(5) + b"\xff\xff\xff\xff\1" + bytes(8) + b"\x07" + bytes(7) + bytes(4)
+        coin = double(tx)
+        yield tx
+
+
+def judged(program, file, names, top):
+    count, good, bad, below = BAD // 76 - 4, [], [], top
+    for height in range(BLOCKS + 1, BLOCKS + 1 + TIMES):
+        # These spend what no block has made, which is found once all is hashed.
+        seeds = range(8, 8 + BRINGERS)
+        bad.append([frame("block", mined(below, [coinbase(seed, height), *in_a_line(bytes([9]) * 32, count)])) for seed in seeds])
+        first = coinbase(7, height)
+        below = mined(below, [first, *in_a_line(double(first), count)])
+        good.append(frame("block", below))
+    server, took, meeting = Server(program, file, "--grow"), [], threading.Barrier(BRINGERS)
+
+    def bring(place):
+        with server.peer() as peer:
+            for number in range(TIMES):
+                meeting.wait()
+                messages = [bad[number][place]] + ([good[number]] if place == 0 else [])
+                ping = struct.pack("<Q", number)
+                peer.sendall(b"".join(messages) + frame("ping", ping))
+                while take(peer, 1) != frame("pong", ping):
+                    pass
+                took.extend(messages)
+
+    try:
+        before = server.seconds()
+        waits = beside(server, *[functools.partial(bring, place) for place in range(BRINGERS)])
+        seconds, joined = server.seconds() - before, server.run.told().count("has joined")
+        print(f"    {len(took)} blocks of {len(good[0]):,} bytes took {seconds:.1f} s of a processor, {1000 * seconds / len(took):.0f} ms each, and {joined} of them joined; "
+              f"the longest of {len(waits)} pings waited {max(waits):.3f} s, and one in ten {sorted(waits)[-len(waits) // 10]:.3f} s or more")
+    finally:
+        server.stop()
+    found = [] if joined == len(good) else ["not all good blocks joined"]
+    return found + ([f"a ping waited more than {WAIT} s"] if max(waits) > WAIT else [])
+
+
+CASES = {"unread": unread, "askers": askers, "blocks": blocks, "bad": bad, "judged": judged}
 
 
 def main():
@@ -274,7 +318,7 @@ def main():
                 out.write(MAGIC + struct.pack("<I", len(top)) + top)
         for name in words.cases or CASES:
             print(name, flush=True)
-            more = (top,) if name in ("blocks", "bad") else ()
+            more = (top,) if name in ("blocks", "bad", "judged") else ()
             for fault in CASES[name](words.program, file, names, *more):
                 print("    FAULT:", fault)
                 is_fine = False

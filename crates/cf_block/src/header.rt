@@ -1,6 +1,7 @@
 //! Headers, their bytes and their hashes.
 ghost use Rattle.std.specs.Prelude.{◌≡◌, ◌++◌, IfOk, OnOk, OnErr};
 ghost use Rattle.cf_bytes.specs.{Reads};
+ghost use Rattle.cf_block.specs.Genesis.{genesis_hash as genesis_hash_is};
 ghost use Rattle.cf_block.specs.Header.{IsHeader, header_spelling, header_fields_at, header_at, block_hash_of, genesis_header as genesis_header_is};
 
 use crate::fault::{BlockFault, BlockFaultKind};
@@ -36,6 +37,12 @@ const GENESIS_HEADER: Header = Header {
     nonce: 2,
 };
 
+/// The hash of that header, first byte first.
+const GENESIS_HASH: Hash32 = Hash32([
+    0x06, 0x22, 0x6e, 0x46, 0x11, 0x1a, 0x0b, 0x59, 0xca, 0xaf, 0x12, 0x60, 0x43, 0xeb, 0x5b, 0xbf,
+    0x28, 0xc3, 0x4f, 0x3a, 0x5e, 0x33, 0x2a, 0x1f, 0xc7, 0xb2, 0xb7, 0x3c, 0xf1, 0x88, 0x91, 0x0f,
+]);
+
 /// The first header of regtest's chain. Its hash, last byte first, is
 /// 0f9188f13cb7b2c71f2a335e3a4fc328bf5beb436012afca590b1a11466e2206.
 #[tactic(auto, unfolding(crate::specs::Header::genesis_header))]
@@ -43,6 +50,15 @@ pub fn genesis_header() -> Header
     ensures { result ≡ genesis_header_is }
 {
     GENESIS_HEADER
+}
+
+/// The hash of the first header of regtest's chain, as it is published. Nothing is hashed here.
+#[tactic(auto, unfolding(crate::specs::Genesis::genesis_hash), using(crate::proofs::GenesisLaws::hash_is))]
+pub fn genesis_hash() -> Hash32
+    ensures published { result.0 ≡ genesis_hash_is }
+    ensures hash { result.0 ≡ block_hash_of genesis_header_is }
+{
+    GENESIS_HASH
 }
 
 /// The header in the next 80 bytes. Where fewer are left it answers `Short` at place 0, and the reader stands where

@@ -23,7 +23,7 @@ pub use commitment::{
 pub use fault::{BlockFault, BlockFaultKind};
 pub use feeding::txid;
 pub use genesis_block::genesis;
-pub use header::{Header, block_hash, genesis_header, parse_header, write_header};
+pub use header::{Header, block_hash, genesis_hash, genesis_header, parse_header, write_header};
 pub use laws::{
     laws_of_blocks, laws_of_genesis, laws_of_headers, laws_of_stored_blocks, laws_of_transactions,
 };
@@ -36,4 +36,4 @@ pub use script::Script;
 pub use stored::{parse_stored, read_stored_tx};
 pub use tx::{Block, OutPoint, Tx, TxIn, TxIns, TxOut, TxOuts, Txs};
 pub use witness::write_with_witness;
-pub use write::{write_block, write_tx};
+pub use write::{block_bytes, tx_bytes, write_block, write_tx};

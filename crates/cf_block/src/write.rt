@@ -1,12 +1,14 @@
 //! The writers of transactions and blocks.
-ghost use Rattle.std.specs.Prelude.{◌≡◌, ◌++◌, OnOk, OnErr};
+ghost use Rattle.std.specs.Prelude.{◌≡◌, ◌++◌, IfOk, OnOk, OnErr};
 ghost use Rattle.std.specs.List.{flat_map};
 ghost use Rattle.cf_bytes.specs.{counted_bytes};
 ghost use Rattle.cf_block.specs.Tx.{input_spelling, output_spelling, tx_spelling, block_spelling};
 
 use crate::header::write_header;
+use crate::size::{block_room, tx_size};
 use crate::tx::{Block, Tx, TxIn, TxOut};
 use cf_bytes::{NoMemory, put_compact};
+use std::alloc::Global;
 
 pub(crate) fn put_counted(bytes: &[u8], out: &mut Vec<u8>) -> Result<(), NoMemory>
     ensures { OnOk result (out.new.items ≡ out.old.items ++ counted_bytes bytes.now) }
@@ -86,14 +88,31 @@ fn put_block(b: &Block, out: &mut Vec<u8>) -> Result<(), NoMemory>
     Ok(())
 }
 
+/// The transaction's bytes, in its form without witnesses.
+pub fn tx_bytes(alloc: Global, t: &Tx) -> Result<Vec<u8>, NoMemory>
+    ensures { IfOk result (λ bytes. bytes.items ≡ tx_spelling t.now) }
+{
+    let mut bytes = Vec::with_capacity(alloc, tx_size(t) as usize)?;
+    put_tx(t, &mut bytes)?;
+    Ok(bytes)
+}
+
+/// The block's bytes, in its form without witnesses.
+pub fn block_bytes(alloc: Global, b: &Block) -> Result<Vec<u8>, NoMemory>
+    ensures { IfOk result (λ bytes. bytes.items ≡ block_spelling b.now) }
+{
+    let mut bytes = Vec::with_capacity(alloc, block_room(b))?;
+    put_block(b, &mut bytes)?;
+    Ok(bytes)
+}
+
 /// Writes the transaction's bytes at the end, in its form without witnesses. Where no memory is found nothing is
 /// written, so they are first written apart.
 pub fn write_tx(t: &Tx, out: &mut Vec<u8>) -> Result<(), NoMemory>
     ensures ok { OnOk result (out.new.items ≡ out.old.items ++ tx_spelling t.now) }
     ensures err { OnErr result (out.new.items ≡ out.old.items) }
 {
-    let mut bytes = Vec::new(*out.allocator());
-    put_tx(t, &mut bytes)?;
+    let bytes = tx_bytes(*out.allocator(), t)?;
     out.extend_from_slice(&bytes)?;
     Ok(())
 }
@@ -103,8 +122,7 @@ pub fn write_block(b: &Block, out: &mut Vec<u8>) -> Result<(), NoMemory>
     ensures ok { OnOk result (out.new.items ≡ out.old.items ++ block_spelling b.now) }
     ensures err { OnErr result (out.new.items ≡ out.old.items) }
 {
-    let mut bytes = Vec::new(*out.allocator());
-    put_block(b, &mut bytes)?;
+    let bytes = block_bytes(*out.allocator(), b)?;
     out.extend_from_slice(&bytes)?;
     Ok(())
 }

@@ -1,5 +1,5 @@
 -- machine: what a growing chain tells a connection, by a step.
-use Rattle.std.specs.Prelude.{◌≡◌, ◌⊎◌, ◌+◌, ℕ, Bool, true, false, if◌then◌else◌, List, [], ◌∷◌, ◌++◌, length, nat_lt, Option, Some, None, is_none, Result, Ok, Err}
+use Rattle.std.specs.Prelude.{◌≡◌, ◌⊎◌, ◌+◌, ℕ, Bool, true, false, if◌then◌else◌, List, [], ◌∷◌, ◌++◌, length, nat_lt, Option, Some, None, IfSome, is_none, Result, Ok, Err}
 use Rattle.cf_bytes.specs.declared.hash.Hash32.{Hash32}
 use Rattle.cf_block.specs.declared.tx.Block.{Block}
 use Rattle.cf_chain.specs.Good.{IsGoodChain}
@@ -11,6 +11,8 @@ use Rattle.cf_grow.specs.declared.mark.TakeFail.{TakeFail}
 use Rattle.cf_grow.specs.declared.mark.TakeFail.TheVariants.{Shrunk, NoMemory}
 use Rattle.cf_grow.specs.declared.taking.Answer.{Answer}
 use Rattle.cf_grow.specs.Held.{text_all}
+use Rattle.cf_index.specs.declared.commitment.Commitment.{Commitment}
+use Rattle.cf_index.specs.Committing.{IsCommitmentOf}
 use Rattle.cf_walk.specs.Files.{cause_on}
 use Rattle.cf_frame.specs.declared.frame.Frame.{Frame}
 use Rattle.cf_msg.specs.declared.msg.Msg.{Msg}
@@ -110,6 +112,10 @@ KeepsWhatJoins old new = new.kept ≡ with_more old.kept (records_above old.bloc
 -- a frame brings no block that may stand on a chain
 abbrev pub BringsNone : List Block → Frame → Type 0
 BringsNone blocks f = (b : Block) → message_of f ≡ Ok (BlockMessage b) → fits_on blocks b ≡ false
+
+-- a commitment that was found is that of the block which a message brings
+abbrev pub FoundFor : Msg → Option Commitment → Type 0
+FoundFor m commitment = (b : Block) → m ≡ BlockMessage b → IfSome commitment (IsCommitmentOf b)
 
 -- the height of the block that has joined, where one has
 abbrev pub height_joined : ℕ → ℕ → Option ℕ

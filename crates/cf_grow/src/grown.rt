@@ -1,11 +1,12 @@
 //! A chain that grows while it is served.
-ghost use Rattle.std.specs.Prelude.{◌≡◌, ◌≤◌, ◌+◌, ◌∷◌, ◌++◌, [], None, length, Ok, IfOk, OnOk, OnErr, true};
+ghost use Rattle.std.specs.Prelude.{◌≡◌, ◌≤◌, ◌+◌, ◌∷◌, ◌++◌, [], None, length, Ok, IfOk, IfSome, OnOk, OnErr, true};
 ghost use Rattle.cf_block.specs.{AreTxids, IsBlock};
 ghost use Rattle.cf_bytes.specs.{with_more};
 ghost use Rattle.cf_chain.specs.{IsGoodChain, grown};
-ghost use Rattle.cf_grow.specs.Growing.{HasMark, HasMomentOf, IsStep, KeepsWhatJoins, Refuses, RefusesBy, TakesRoom, answer_at, fits_on, height_joined, joined_in, mark_of};
+ghost use Rattle.cf_grow.specs.Growing.{FoundFor, HasMark, HasMomentOf, IsStep, KeepsWhatJoins, Refuses, RefusesBy, TakesRoom, answer_at, fits_on, height_joined, joined_in, mark_of};
 ghost use Rattle.cf_grow.specs.Standing.{Keeps};
 ghost use Rattle.cf_grow.specs.Held.{text_all};
+ghost use Rattle.cf_index.specs.{IsCommitmentOf};
 ghost use Rattle.cf_msg.specs.declared.msg.Msg.TheVariants.{Block as BlockMessage};
 ghost use Rattle.cf_msg.specs.{HasSpelling, message_of as message_in};
 ghost use Rattle.cf_server.specs.{text_of};
@@ -21,7 +22,7 @@ use crate::taking::take_at;
 use cf_block::{Block, TxIds};
 use cf_bytes::{NoMemory, Refused};
 use cf_frame::Frame;
-use cf_index::Index;
+use cf_index::{Commitment, Index};
 use cf_msg::Msg;
 use std::alloc::Global;
 use std::marker::Model;
@@ -142,9 +143,16 @@ impl<K: Keeper> Grown<K> {
     // Puts the block of a frame on the chain, where it may stand there. Where the frame's bytes have no room, or the
     // block's record isn't kept, no memory is found.
     #[tactic(auto, using(crate::proofs::Grows::put_so, crate::proofs::Keeping::kept_so))]
-    fn put(&mut self, alloc: Global, frame: Frame, block: Block) -> Result<(), NoMemory>
+    fn put(
+        &mut self,
+        alloc: Global,
+        frame: Frame,
+        block: Block,
+        commitment: Option<Commitment>,
+    ) -> Result<(), NoMemory>
         requires block { IsBlock block }
         requires brings { message_in frame ≡ Ok (BlockMessage block) }
+        requires commitment { IfSome commitment (IsCommitmentOf block) }
         ensures ok { OnOk result (self.new.blocks ≡ grown fits_on self.old.blocks true (BlockMessage block)) }
         ensures room { OnOk result (TakesRoom (length frame.payload) self.old self.new) }
         ensures kept { OnOk result (KeepsWhatJoins self.old self.new) }
@@ -154,7 +162,7 @@ impl<K: Keeper> Grown<K> {
         if self.room < size {
             return Err(NoMemory);
         }
-        match self.index.judge(alloc, &block) {
+        match self.index.judge(alloc, &block, commitment) {
             Ok(txids) => self.join(alloc, block, &txids, size),
             Err(Refused::No(_cause)) => {
                 self.refused.keep(frame);
@@ -166,9 +174,16 @@ impl<K: Keeper> Grown<K> {
 
     // Puts the block of a frame on the chain, where it may stand there and wasn't refused lately.
     #[tactic(auto, using(crate::proofs::Grows::stays_refused, crate::proofs::Keeping::keeps_none))]
-    fn put_new(&mut self, alloc: Global, frame: Frame, block: Block) -> Result<(), NoMemory>
+    fn put_new(
+        &mut self,
+        alloc: Global,
+        frame: Frame,
+        block: Block,
+        commitment: Option<Commitment>,
+    ) -> Result<(), NoMemory>
         requires block { IsBlock block }
         requires brings { message_in frame ≡ Ok (BlockMessage block) }
+        requires commitment { IfSome commitment (IsCommitmentOf block) }
         ensures ok { OnOk result (self.new.blocks ≡ grown fits_on self.old.blocks true (BlockMessage block)) }
         ensures room { OnOk result (TakesRoom (length frame.payload) self.old self.new) }
         ensures kept { OnOk result (KeepsWhatJoins self.old self.new) }
@@ -177,14 +192,30 @@ impl<K: Keeper> Grown<K> {
         if self.refused.has(&frame) {
             return Ok(());
         }
-        self.put(alloc, frame, block)
+        self.put(alloc, frame, block, commitment)
+    }
+
+    // Whether a frame's block wasn't refused lately, has room, and its header may stand on the chain: then it pays to
+    // find its commitment.
+    fn may_join(&self, frame: &Frame, block: &Block) -> bool {
+        self.index.is_next(&block.header)
+            && frame.payload.len() as u64 <= self.room
+            && !self.refused.has(frame)
     }
 
     // Puts the block of a message on the chain, where its sender was met and the block may stand there.
     #[tactic(auto, using(crate::proofs::Keeping::keeps_none))]
-    fn grow(&mut self, alloc: Global, met: bool, frame: Frame, msg: Msg) -> Result<(), NoMemory>
+    fn grow(
+        &mut self,
+        alloc: Global,
+        met: bool,
+        frame: Frame,
+        msg: Msg,
+        commitment: Option<Commitment>,
+    ) -> Result<(), NoMemory>
         requires spelled { HasSpelling msg }
         requires brings { message_in frame ≡ Ok msg }
+        requires commitment { FoundFor msg commitment }
         ensures ok { OnOk result (self.new.blocks ≡ grown fits_on self.old.blocks met msg) }
         ensures room { OnOk result (TakesRoom (length frame.payload) self.old self.new) }
         ensures kept { OnOk result (KeepsWhatJoins self.old self.new) }
@@ -194,25 +225,27 @@ impl<K: Keeper> Grown<K> {
             return Ok(());
         }
         if let Msg::Block(block) = msg {
-            return self.put_new(alloc, frame, block);
+            return self.put_new(alloc, frame, block, commitment);
         }
         Ok(())
     }
 
     /// One step: the chain as it stands answers the message of a frame, and then the block that it brings is put on,
     /// where it may stand there, once its record is kept: what is kept is what was kept before, and the record of the
-    /// block that has joined. It is refused where the chain hasn't the mark's hash at its height, or no longer has its
-    /// first tip, and where no memory is found, no room for a block, or its record can't be kept; after that nothing
-    /// has changed.
+    /// block that has joined. Where the block's commitment was found before, it isn't found again. The step is refused
+    /// where the chain hasn't the mark's hash at its height, or no longer has its first tip, and where no memory is
+    /// found, no room for a block, or its record can't be kept; after that nothing has changed.
     pub fn take(
         &mut self,
         alloc: Global,
         mark: &mut ServedMark,
         frame: Frame,
         msg: Msg,
+        commitment: Option<Commitment>,
     ) -> Result<Taken, TakeFail>
         requires spelled { HasSpelling msg }
         requires brings { message_in frame ≡ Ok msg }
+        requires commitment { FoundFor msg commitment }
         ensures good { IsGoodChain self.old.blocks }
         ensures has { OnOk result (HasMark self.old.blocks mark.old × Keeps self.old.blocks mark.old.first) }
         ensures answer { IfOk result
@@ -232,7 +265,7 @@ impl<K: Keeper> Grown<K> {
             Ok(parts) => parts,
             Err(e) => return Err(e),
         };
-        match self.grow(alloc, before.served.seen, frame, msg) {
+        match self.grow(alloc, before.served.seen, frame, msg, commitment) {
             Ok(()) => {
                 let joined = height_above(height, self.index.tip());
                 Ok(Taken { parts, joined })
@@ -245,6 +278,31 @@ impl<K: Keeper> Grown<K> {
     }
 }
 
+// The commitment of a message's block, which is found while the lock isn't held, where the block's sender was met and
+// it may join the chain by what is known of it. Where no memory is found it isn't found yet.
+fn commitment_before<R: Wait, K: Keeper>(
+    rt: &R,
+    alloc: Global,
+    grown: &Mutex<Grown<K>>,
+    met: bool,
+    frame: &Frame,
+    msg: &Msg,
+) -> Option<Commitment>
+    ensures { FoundFor msg.now result }
+{
+    if !met {
+        return None;
+    }
+    let Msg::Block(block) = msg else {
+        return None;
+    };
+    let is_hopeful = grown.lock(rt).may_join(frame, block);
+    if !is_hopeful {
+        return None;
+    }
+    Commitment::of(alloc, block).ok()
+}
+
 // The height of the tip, where it is higher now.
 fn height_above(before: u32, now: u32) -> Option<u32>
     ensures { result ≡ height_joined before now }
@@ -252,11 +310,11 @@ fn height_above(before: u32, now: u32) -> Option<u32>
     if before < now { Some(now) } else { None }
 }
 
-/// One step under the lock: whatever others have put on the chain, the answer is that of a good chain on which the mark
-/// stands, and which still has its first tip; the height is told of a block that joins that chain. It is refused only
-/// by a good chain that hasn't the mark's hash at its height, or no longer has its first tip, with both hashes, and
-/// where no memory is found, no room for a block, or its record can't be kept. The lock is let go with the return, and
-/// what is answered needs it no more.
+/// One step under the lock, before which a block's commitment is found: whatever others have put on the chain, the
+/// answer is that of a good chain on which the mark stands, and which still has its first tip; the height is told of a
+/// block that joins that chain. It is refused only by a good chain that hasn't the mark's hash at its height, or no
+/// longer has its first tip, with both hashes, and where no memory is found, no room for a block, or its record can't
+/// be kept. The lock is let go with the return, and what is answered needs it no more.
 pub fn take_locked<R: Wait, K: Keeper>(
     rt: &R,
     alloc: Global,
@@ -272,6 +330,7 @@ pub fn take_locked<R: Wait, K: Keeper>(
     ensures refused { RefusesBy mark.old result }
     ensures kept { OnErr result (mark.new ≡ mark.old) }
 {
+    let commitment = commitment_before(rt, alloc, grown, mark.served.seen, &frame, &msg);
     let mut locked = grown.lock(rt);
-    locked.take(alloc, mark, frame, msg)
+    locked.take(alloc, mark, frame, msg, commitment)
 }

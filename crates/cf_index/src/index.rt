@@ -1,31 +1,33 @@
 //! The index of a checked chain: its blocks by their heights and their hashes, with their filters.
-ghost use Rattle.std.specs.Prelude.{All, None, Some, ◌≡◌, ◌≤◌, ◌<◌, ◌+◌, ◌∷◌, ◌++◌, [], length, OnOk, OnErr, map, IfOk, option_map, option_copied, position, slice_get};
+ghost use Rattle.std.specs.Prelude.{All, None, Some, ◌≡◌, ◌≤◌, ◌<◌, ◌+◌, ◌∷◌, ◌++◌, [], length, OnOk, OnErr, map, IfOk, IfSome, is_none, option_map, option_copied, position, slice_get};
 ghost use Rattle.std.specs.FinMap.{get, empty};
 ghost use Rattle.std.specs.Thread.{IsSync};
 ghost use Rattle.cf_bytes.specs.declared.hash.Hash32.{Hash32};
 ghost use Rattle.cf_block.specs.{AreTxids, block_hash_of, IsBlock};
 ghost use Rattle.cf_chain.specs.{filter_at, filters_of, after_block, coins_after, IsGoodChain, headers_of, all_blocks, block_height};
-ghost use Rattle.cf_headers.specs.{height_limit, tip_hash, same};
-ghost use Rattle.cf_headers.specs.Rules.{past_after};
+ghost use Rattle.cf_headers.specs.{height_limit, past_of, tip_hash, same};
+ghost use Rattle.cf_headers.specs.Rules.{fault_after, past_after};
 ghost use Rattle.cf_coins.specs.{spend_txs};
 ghost use Rattle.cf_filter.specs.{filter_hash_of};
 ghost use Rattle.cf_index.specs.Adding.{AreTheirs, last_header};
 ghost use Rattle.cf_index.specs.Bare.{AreKept};
 ghost use Rattle.cf_index.specs.ByHash.{with_first};
+ghost use Rattle.cf_index.specs.Committing.{IsCommitmentOf};
 ghost use Rattle.cf_walk.specs.{cause_on, in_coins, FindsCause};
 ghost use Rattle.cf_index.specs.Filtering.{shown};
 ghost use Rattle.cf_index.specs.HeightMap.{AreHeightsOf, first_hash};
 
 use crate::block_filter::BlockFilter;
 use crate::checked::CheckedChain;
+use crate::commitment::{Commitment, judge_next};
 use crate::filters::{all_filters, bare_filter, with_header};
 use crate::heights::{Heights, heights_of};
 use crate::shared::{SharedBlock, SharedBlocks, SharedFilter, shared_blocks};
 use cf_block::{Block, Header, TxIds, block_hash, genesis, txids};
 use cf_bytes::{Hash32, Listed, NoMemory, Refused};
 use cf_coins::{Coins, Spent, spend_block};
-use cf_headers::Past;
-use cf_walk::{RecordCause, judge_before_coins, judge_by};
+use cf_headers::{Past, check_on};
+use cf_walk::{RecordCause, judge_by};
 use std::alloc::Global;
 use std::marker::Model;
 use std::thread::{Threads, join};
@@ -237,14 +239,14 @@ impl Index {
 
     /// Puts a block on the chain where the chain with it is good. Otherwise nothing has changed, and the cause is
     /// answered. The chain's coins are found by the first call that comes to them, and kept, whether it puts its block
-    /// on or not; want of memory may lose them again.
+    /// on or not; want of memory may lose them again. `judge`, and `put` then, do the same.
     pub fn add(&mut self, alloc: Global, block: Block) -> Result<(), Refused<RecordCause>>
         requires block { IsBlock block }
         ensures exact { FindsCause (cause_on self.old block) result }
         ensures more { OnOk result (self.new ≡ self.old ++ block ∷ []) }
         ensures kept { OnErr result (self.new ≡ self.old) }
     {
-        let txids = match self.judge(alloc, &block) {
+        let txids = match self.judge(alloc, &block, None) {
             Ok(txids) => txids,
             Err(e) => return Err(e),
         };
@@ -255,10 +257,16 @@ impl Index {
     }
 
     /// Judges whether a block may stand on the chain, which stays as it is. Answers the hashes of its transactions, by
-    /// which it is put on then, or the cause. The chain's coins are found by the first call that comes to them, and
-    /// kept.
-    pub fn judge(&mut self, alloc: Global, block: &Block) -> Result<TxIds, Refused<RecordCause>>
+    /// which it is put on then, or the cause. Where the block's commitment was found before, they aren't made again.
+    /// The chain's coins are found by the first call that comes to them, and kept.
+    pub fn judge(
+        &mut self,
+        alloc: Global,
+        block: &Block,
+        commitment: Option<Commitment>,
+    ) -> Result<TxIds, Refused<RecordCause>>
         requires block { IsBlock block.now }
+        requires commitment { IfSome commitment (IsCommitmentOf block.now) }
         ensures exact { FindsCause (cause_on self.old block.now) result }
         ensures hashes { IfOk result (λ ids. AreTxids ids block.now.txs) }
         ensures same { self.new ≡ self.old }
@@ -266,7 +274,7 @@ impl Index {
         let hash = block_hash(&block.header);
         let tip = self.top_hash();
         let height = self.blocks.len();
-        let txids = match judge_before_coins(alloc, &tip, &self.past, height, block, &hash) {
+        let txids = match judge_next(alloc, &tip, &self.past, height, block, &hash, commitment) {
             Ok(txids) => txids,
             Err(e) => return Err(e),
         };
@@ -312,6 +320,15 @@ impl Index {
         )?;
         go_on(&mut self.past, &mut self.coins, time, coins);
         Ok(())
+    }
+
+    /// Whether a block's header may stand on the highest one. What else `judge` looks at isn't looked at.
+    pub fn is_next(&self, header: &Header) -> bool
+        ensures { result
+            ≡ is_none (fault_after (tip_hash (headers_of self.now)) (past_of (headers_of self.now)) header.now) }
+    {
+        let tip = self.top_hash();
+        check_on(&tip, self.past.times(), header, &block_hash(header)).is_ok()
     }
 
     /// Finds the chain's coins, by which `add` judges, so that the first call needn't.

@@ -5,6 +5,7 @@
 mod block_filter;
 mod chain;
 mod checked;
+mod commitment;
 mod file;
 mod filters;
 mod heights;
@@ -16,6 +17,7 @@ mod tx_index;
 
 pub use block_filter::BareFilter;
 pub use checked::CheckedChain;
+pub use commitment::Commitment;
 pub use file::read_chain;
 pub use index::Index;
 pub use laws::{laws_of_adding, laws_of_files};

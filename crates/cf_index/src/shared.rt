@@ -94,7 +94,7 @@ pub(crate) type SharedBlocks = Listed<SharedBlock>;
 pub(crate) fn shared_blocks(alloc: Global, blocks: Listed<Block>) -> Result<SharedBlocks, NoMemory>
     ensures { IfOk result (λ shared. shared ≡ blocks) }
 {
-    let mut shared = Listed::new(alloc);
+    let mut shared = Listed::from_vec(Vec::with_capacity(alloc, blocks.len())?);
     for block in blocks.into_vec() {
         let held = SharedBlock::new(alloc, block)?;
         shared.push(held)?;

@@ -3,7 +3,7 @@ ghost use Rattle.std.specs.Prelude.{◌≡◌, ◌++◌, OnOk, IfOk};
 ghost use Rattle.cf_make.specs.Records.{record_of, records_of};
 
 use crate::making::Chain;
-use cf_block::{Block, write_block};
+use cf_block::{Block, block_bytes};
 use cf_bytes::{MAGIC, NoMemory};
 use std::alloc::Global;
 
@@ -23,8 +23,7 @@ pub fn records(alloc: Global, chain: &Chain) -> Result<Vec<u8>, NoMemory>
 fn put_record(block: &Block, out: &mut Vec<u8>) -> Result<(), NoMemory>
     ensures { OnOk result (out.new.items ≡ out.old.items ++ record_of block.now) }
 {
-    let mut bytes = Vec::new(*out.allocator());
-    write_block(block, &mut bytes)?;
+    let bytes = block_bytes(*out.allocator(), block)?;
     let Ok(len) = u32::try_from(bytes.len()) else {
         return Err(NoMemory);
     };

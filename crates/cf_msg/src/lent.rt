@@ -6,7 +6,7 @@ ghost use Rattle.cf_msg.specs.declared.msg.Msg.TheVariants.{Block as BlockMessag
 ghost use Rattle.cf_msg.specs.Message.{frame_of};
 
 use crate::command::BLOCK;
-use cf_block::{Block, write_block};
+use cf_block::{Block, block_bytes};
 use cf_bytes::NoMemory;
 use cf_frame::{Frame, Payload};
 use std::alloc::Global;
@@ -18,8 +18,7 @@ pub fn frame_block(alloc: Global, block: &Block) -> Result<Frame, NoMemory>
     ensures exact { IfOk result (λ f. f ≡ frame_of (BlockMessage block.now)) }
     ensures frame { IfOk result (λ f. IsFrame f) }
 {
-    let mut payload = Vec::new(alloc);
-    write_block(block, &mut payload)?;
+    let payload = block_bytes(alloc, block)?;
     Ok(Frame {
         command: BLOCK,
         payload: Payload::from_vec(payload),

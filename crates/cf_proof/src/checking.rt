@@ -8,7 +8,7 @@ use crate::fault::ProofFault;
 use crate::proof::Proof;
 use crate::reading::read_proof;
 use crate::walking::{Node, height_of, walk};
-use cf_block::{Tx, block_hash, txid, write_tx};
+use cf_block::{Tx, block_hash, tx_bytes, txid};
 use cf_bytes::{Hash32, NoMemory, Refused};
 use std::alloc::Global;
 
@@ -96,8 +96,7 @@ fn root_fault(root: &Hash32, node: &Node) -> Option<ProofFault>
 fn size_of(alloc: Global, tx: &Tx) -> Result<usize, NoMemory>
     ensures { IfOk result (λ n. n ≡ length (tx_spelling tx.now)) }
 {
-    let mut bytes = Vec::new(alloc);
-    write_tx(tx, &mut bytes)?;
+    let bytes = tx_bytes(alloc, tx)?;
     Ok(bytes.len())
 }
 

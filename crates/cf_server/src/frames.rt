@@ -122,7 +122,7 @@ fn headers_from(alloc: Global, index: &Index, start: u32, count: u32) -> Result<
     requires there { start + count ≤ suc (length index.now) }
     ensures { IfOk result (λ headers. headers ≡ take count (drop start (map (λ b. b.header) (all_blocks index.now)))) }
 {
-    let mut headers = Headers::new(alloc);
+    let mut headers = Headers::from_vec(Vec::with_capacity(alloc, count as usize)?);
     for i in 0..count {
         push_some(&mut headers, index.header(start + i))?;
     }

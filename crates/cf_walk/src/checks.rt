@@ -14,7 +14,8 @@ use cf_coins::{Coins, Spent, check_block, spend_block};
 use cf_headers::{HEIGHT_LIMIT, Past, check_on};
 use std::alloc::Global;
 
-pub(crate) fn judge_header(
+/// Judges a block's header, which has this hash, where it is to stand on a header with that hash and after these times.
+pub fn judge_header(
     tip: &Hash32,
     past: &Past,
     header: &Header,
@@ -28,7 +29,8 @@ pub(crate) fn judge_header(
     }
 }
 
-pub(crate) fn judge_height(height: usize) -> Result<(), Refused<RecordCause>>
+/// Judges the height of a block that is to stand above so many.
+pub fn judge_height(height: usize) -> Result<(), Refused<RecordCause>>
     ensures exact { FindsCause (in_height height) result }
     ensures low { OnOk result (height < height_limit) }
 {
@@ -38,8 +40,8 @@ pub(crate) fn judge_height(height: usize) -> Result<(), Refused<RecordCause>>
     Ok(())
 }
 
-// Answers the hashes of the transactions, which are made here.
-pub(crate) fn judge_commitment(alloc: Global, block: &Block) -> Result<TxIds, Refused<RecordCause>>
+/// Judges whether a block's header stands for its transactions. Answers their hashes, which are made here.
+pub fn judge_commitment(alloc: Global, block: &Block) -> Result<TxIds, Refused<RecordCause>>
     ensures exact { FindsCause (in_commitment (commit_fault block.now)) result }
     ensures hashes { IfOk result (λ ids. AreTxids ids block.now.txs) }
 {
