@@ -1,7 +1,6 @@
 -- What is open, after a change.
 use Rattle.std.proofs.Common.{◌≡◌, ◌≢◌, ◌⊎◌, inl, inr, ℕ, zero, suc, ◌<◌, ◌≤◌, Bool, true, false, cond, List, [], ◌∷◌, ◌++◌, length, set, get_or, refl, sym, ◌∙◌, ap, subst, arith, Option, Some, None}
 use Rattle.std.specs.Prelude.{is_some, slice_get, Result, Ok, Err, OnErr}
-use Rattle.std.specs.Map.{keys_of, lookup}
 use Rattle.std.specs.Ordering.{is_eq, nat_cmp}
 use Rattle.std.specs.Cmp.Lexicographic.{slice_cmp}
 use Rattle.std.proofs.lemmas.Bool.{cases_Bool, cases_eq}
@@ -12,6 +11,7 @@ use Rattle.cf_bytes.specs.declared.memory.NoMemory.{NoMemory}
 use Rattle.cf_dispute.specs.Tables.{blocks_of}
 use Rattle.cf_headers.specs.Chain.{Hash, IsIn}
 use Rattle.cf_seek.specs.declared.open_at.OpenAt.{OpenAt}
+use Rattle.cf_seek.specs.Listed.{AreListed, is_key}
 use Rattle.cf_seek.specs.Opening.{Closes, OpensBlock, OpensFilters, OpensSome}
 use Rattle.cf_seek.specs.OpensOf.{filter_at, filter_or, block_at, block_or, opens_among}
 use Rattle.cf_seek.specs.Seeking.{MoreOpens}
@@ -157,23 +157,29 @@ more_at peers p old new d lt was stays block = record {
   ];
 }
 
--- ---- the keys of a map
+-- ---- the blocks of the filters that are open
 
-pub in_keys : (block : Hash) (es : List (Hash32 × Unit {0})) → is_some (lookup (λ k. is_eq (slice_cmp nat_cmp block k.0)) es) ≡ true → IsIn block (blocks_of (keys_of es))
-in_keys block [] there = absurd (let no : false ≡ true = there in cc no)
-in_keys block (e ∷ es) there = elim (cases_Bool (is_eq (slice_cmp nat_cmp block e.0.0))) [
-  | inl is1 ↦ inl (same_true block e.0.0 (sym (compared block e.0.0) ∙ is1))
-  | inr off ↦ inr (in_keys block es (sym (ap (λ (b : Bool). is_some (cond b (Some e.1) (lookup (λ k. is_eq (slice_cmp nat_cmp block k.0)) es))) off) ∙ there))
+-- a list with one block more
+pub in_pushed : (xs : List Hash32) (y : Hash32) (hash : Hash) → IsIn hash (blocks_of xs) ⊎ (hash ≡ y.0) → IsIn hash (blocks_of (xs ++ y ∷ []))
+in_pushed [] y hash (inl i) = absurd i
+in_pushed [] y hash (inr e) = inl e
+in_pushed (x ∷ xs) y hash (inl (inl e)) = inl e
+in_pushed (x ∷ xs) y hash (inl (inr i)) = inr (in_pushed xs y hash (inl i))
+in_pushed (x ∷ xs) y hash (inr e) = inr (in_pushed xs y hash (inr e))
+
+-- it has each key of a map that it had
+pub listed_more : (entries : List (Hash32 × Unit {0})) (xs more : List Hash32) (y : Hash32) → more ≡ xs ++ y ∷ []
+    → AreListed entries xs → AreListed entries more
+listed_more entries xs more y is are hash out =
+    are hash (λ i. out (subst (λ (zs : List Hash32). IsIn hash (blocks_of zs)) (sym is) (in_pushed xs y hash (inl i))))
+
+-- and the key that is put
+pub listed_put : (entries next : List (Hash32 × Unit {0})) (xs more : List Hash32) (y : Hash32) → more ≡ xs ++ y ∷ []
+    → ((hash : Hash) → is_key next hash ≡ true → (hash ≡ y.0) ⊎ (is_key entries hash ≡ true)) → AreListed entries xs → AreListed next more
+listed_put entries next xs more y is only are hash out = elim (cases_Bool (is_key next hash)) [
+  | inl there ↦ elim (only hash there) [
+    | inl this ↦ absurd (out (subst (λ (zs : List Hash32). IsIn hash (blocks_of zs)) (sym is) (in_pushed xs y hash (inr this))))
+    | inr was ↦ absurd (let no : true ≡ false = sym was ∙ listed_more entries xs more y is are hash out in cc no)
+  ]
+  | inr off ↦ off
 ]
-
-pub key_there : (block : Hash) (es : List (Hash32 × Unit {0})) → IsIn block (blocks_of (keys_of es))
-    → is_some (lookup (λ k. is_eq (slice_cmp nat_cmp block k.0)) es) ≡ true
-key_there block [] none = absurd none
-key_there block (e ∷ es) i = elim (cases_Bool (is_eq (slice_cmp nat_cmp block e.0.0))) [
-  | inl is1 ↦ ap (λ (b : Bool). is_some (cond b (Some e.1) (lookup (λ k. is_eq (slice_cmp nat_cmp block k.0)) es))) is1
-  | inr off ↦ ap (λ (b : Bool). is_some (cond b (Some e.1) (lookup (λ k. is_eq (slice_cmp nat_cmp block k.0)) es))) off
-      ∙ key_there block es (later i off)
-] where
-  later : IsIn block (blocks_of (keys_of (e ∷ es))) → is_eq (slice_cmp nat_cmp block e.0.0) ≡ false → IsIn block (blocks_of (keys_of es))
-  later (inl this) off = absurd (let no : true ≡ false = sym (compared block e.0.0 ∙ subst (λ (x : Hash). same block x ≡ true) this (true_here block)) ∙ off in cc no)
-  later (inr more) off = more

@@ -3,6 +3,7 @@ pub mod Cursors
 pub mod Ends
 pub mod Spans
 pub mod Opens
+pub mod Listed
 pub mod OpensOf
 pub mod OpensAll
 pub mod Seeking

@@ -1,17 +1,15 @@
 -- machine: what is open, by what the code keeps.
-use Rattle.std.specs.Prelude.{Bool, false, List, Option, Some, None, is_some, slice_get}
-use Rattle.std.specs.Ordering.{is_eq, nat_cmp}
-use Rattle.std.specs.Cmp.Lexicographic.{slice_cmp}
-use Rattle.std.specs.Map.{lookup}
+use Rattle.std.specs.Prelude.{Bool, false, List, Option, Some, None, slice_get}
 use Rattle.cf_bytes.specs.declared.hash.Hash32.{Hash32}
 use Rattle.cf_headers.specs.Chain.{Hash}
 use Rattle.cf_headers.specs.Rules.{same}
 use Rattle.cf_seek.specs.declared.open_at.OpenAt.{OpenAt}
+use Rattle.cf_seek.specs.Listed.{is_key}
 use Rattle.cf_seek.specs.Opens.{Opens}
 
 -- to one peer
 unfoldable pub filter_at : OpenAt → Hash → Bool
-filter_at at block = is_some (lookup (λ k. is_eq (slice_cmp nat_cmp block k.0)) at.filters.entries)
+filter_at at block = is_key at.filters.entries block
 
 abbrev pub is_this : Hash → Option Hash32 → Bool
 is_this block None = false

@@ -2,6 +2,7 @@
 ghost use Rattle.std.specs.Prelude.{◌≡◌, ◌⊎◌, ℕ, List, true, false, OnOk};
 ghost use Rattle.cf_dispute.specs.{blocks_of};
 ghost use Rattle.cf_headers.specs.{IsIn, same};
+ghost use Rattle.cf_seek.specs.Listed.{AreListed, is_key};
 
 use cf_bytes::{Hash32, NoMemory};
 use std::alloc::Global;
@@ -11,7 +12,10 @@ use std::collections::BTreeMap;
 #[derive(Drop)]
 pub struct OpenAt {
     pub filters: BTreeMap<Hash32, ()>,
+    /// The blocks of the filters, in the order in which they were asked for.
+    pub asked: Vec<Hash32>,
     pub block: Option<Hash32>,
+    ghost listed: { AreListed filters.entries asked.items },
 }
 
 impl OpenAt {
@@ -25,6 +29,7 @@ impl OpenAt {
     {
         OpenAt {
             filters: BTreeMap::new(alloc),
+            asked: Vec::new(alloc),
             block: None,
         }
     }
@@ -69,7 +74,8 @@ impl OpenAt {
             → (hash ≡ block.0) ⊎ (filter_at self.old hash ≡ true) }
         ensures block { (hash : List ℕ) → block_at self.new hash ≡ block_at self.old hash }
     {
-        self.filters.insert(block, ())?;
+        self.asked.push(block)?;
+        put_key(&mut self.filters, block)?;
         Ok(())
     }
 
@@ -96,4 +102,15 @@ impl OpenAt {
     {
         self.block = Some(*block);
     }
+}
+
+// Puts a block among the keys of a map. Where no memory is found nothing has changed.
+fn put_key(filters: &mut BTreeMap<Hash32, ()>, block: Hash32) -> Result<(), NoMemory>
+    ensures there { OnOk result (is_key filters.new.entries block.0 ≡ true) }
+    ensures stays { (hash : List ℕ) → is_key filters.old.entries hash ≡ true → is_key filters.new.entries hash ≡ true }
+    ensures only { (hash : List ℕ) → is_key filters.new.entries hash ≡ true
+        → (hash ≡ block.0) ⊎ (is_key filters.old.entries hash ≡ true) }
+{
+    filters.insert(block, ())?;
+    Ok(())
 }

@@ -1,7 +1,7 @@
 //! What a peer is to be asked for next that isn't open to anybody.
 ghost use Rattle.std.specs.Prelude.{◌≡◌, ◌≢◌, ◌⊎◌, ◌+◌, ◌<◌, ◌≤◌, ℕ, List, true, false, IsSome, length, max};
-ghost use Rattle.cf_dispute.specs.{tables_of};
-ghost use Rattle.cf_headers.specs.{hash_at, height_of, own_of};
+ghost use Rattle.cf_dispute.specs.{blocks_of, tables_of};
+ghost use Rattle.cf_headers.specs.{IsIn, hash_at, height_of, own_of};
 ghost use Rattle.cf_tables.specs.{table_in, verdicts_in, IsToFetch, IsUnjudged};
 ghost use Rattle.cf_seek.specs.OpensAll.{opens_in};
 ghost use Rattle.cf_seek.specs.OpensOf.{block_at, filter_at};
@@ -261,12 +261,47 @@ fn is_filter_left(extracts: &Extracts, claims: &Claims, judged: &Judged, at: &Op
     ensures yes { result ≡ true → (block : List ℕ) × ((filter_at at.now block ≡ true)
         × IsUnjudged (table_in extracts.now) (tables_of claims.now) (verdicts_in judged.now) block) }
 {
-    for block in at.filters.keys() {
-        if is_unjudged(kind_of(extracts, claims, judged, block)) {
+    is_one_left(extracts, claims, judged, at, at.asked.as_slice())
+}
+
+// Whether the filter of one of some blocks is open to a peer and still to be asked for.
+fn is_one_left(
+    extracts: &Extracts,
+    claims: &Claims,
+    judged: &Judged,
+    at: &OpenAt,
+    blocks: &[Hash32],
+) -> bool
+    ensures no { result ≡ false → (block : List ℕ) → IsIn block (blocks_of blocks.now) → filter_at at.now block ≡ true
+        → IsUnjudged (table_in extracts.now) (tables_of claims.now) (verdicts_in judged.now) block → ⊥ }
+    ensures yes { result ≡ true → (block : List ℕ) × ((filter_at at.now block ≡ true)
+        × IsUnjudged (table_in extracts.now) (tables_of claims.now) (verdicts_in judged.now) block) }
+{
+    for block in blocks {
+        if is_left(extracts, claims, judged, at, block) {
             return true;
         }
     }
     false
+}
+
+// Whether a block's filter is open to a peer and still to be asked for.
+fn is_left(
+    extracts: &Extracts,
+    claims: &Claims,
+    judged: &Judged,
+    at: &OpenAt,
+    block: &Hash32,
+) -> bool
+    ensures no { result ≡ false → filter_at at.now block.now.0 ≡ true
+        → IsUnjudged (table_in extracts.now) (tables_of claims.now) (verdicts_in judged.now) block.now.0 → ⊥ }
+    ensures yes { result ≡ true → (filter_at at.now block.now.0 ≡ true)
+        × IsUnjudged (table_in extracts.now) (tables_of claims.now) (verdicts_in judged.now) block.now.0 }
+{
+    if !is_unjudged(kind_of(extracts, claims, judged, block)) {
+        return false;
+    }
+    at.has_filter(block)
 }
 
 /// The same below each block whose filter hits, by verdicts on the filters of a batch in their order.

@@ -1,17 +1,10 @@
-use Rattle.std.proofs.Common.{sym, ◌∙◌, ap}
-use Rattle.std.specs.Prelude.{is_some}
-use Rattle.cf_seek.specs.OpensOf.{filter_at}
-use Rattle.cf_seek.proofs.Openings.{put_here, put_stays, put_only}
+use Rattle.cf_seek.proofs.Openings.{listed_put}
 use Rattle.cf_seek.proofs.open_at.OpenAt.put_filter.Goals as goal
 
-pub returns-clause-there : goal.returns-clause-there
-unfolding filter_at
-returns-clause-there c = ap is_some (c.in_ok-insert.ensures.updates.0 c.args.block) ∙ put_here c.args.block.0 _
-
-pub returns-clause-stays : goal.returns-clause-stays
-unfolding filter_at
-returns-clause-stays c = λ hash was. ap is_some (c.in_ok-insert.ensures.updates.0 (record { 0 = hash })) ∙ put_stays c.args.block.0 hash _ was
-
-pub returns-clause-only : goal.returns-clause-only
-unfolding filter_at
-returns-clause-only c = λ hash is. put_only c.args.block.0 hash _ (sym (ap is_some (c.in_ok-insert.ensures.updates.0 (record { 0 = hash }))) ∙ is)
+pub invariant_of-self-2 : goal.invariant_of-self-2
+invariant_of-self-2 c =
+    let now = c.args.self.now in
+    record {
+      listed = listed_put now.filters.entries c.put_key.new.filters.entries now.asked.items c.push.new.self.items c.args.block
+          c.in_ok-push.ensures.items c.put_key.ensures.only now.listed;
+    }
