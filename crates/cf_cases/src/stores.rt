@@ -61,7 +61,6 @@ fn outcome_over<H: HeaderStore + Drop>(
             0,
             0,
             1_000_000,
-            false,
         )
         .ok(),
         Err(_) => None,

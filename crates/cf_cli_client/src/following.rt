@@ -16,7 +16,7 @@ use cf_headers::{HeaderStore, Tree};
 use cf_input::Word;
 use cf_match::Matcher;
 use cf_place::PeerEnd;
-use cf_run::{KeptTexts, Live, Outcome, TextFail, follow_over};
+use cf_run::{KeptTexts, Live, Outcome, TextFail, follow_traced};
 use cf_run_text::put_trace;
 use cf_scan::Watch;
 use cf_wires::Wires;
@@ -49,7 +49,7 @@ fn follow_live<W: Wires, H: HeaderStore + Drop, M: Matcher + Drop, O: Sink>(
         ends.old.items ends.new.items }
 {
     let mut texts = Live::new(out);
-    match follow_over(
+    match follow_traced(
         alloc, wires, names, watch, store, matcher, moment, nonce, turns, false, &mut texts,
     ) {
         Ok(outcome) => {
@@ -207,7 +207,7 @@ pub fn follow_on_tape<W: Wires, M: Matcher + Drop, O: Sink>(
         return Status::NoMemory;
     };
     let mut texts = KeptTexts::new(alloc);
-    match follow_over(
+    match follow_traced(
         alloc, wires, names, watch, store, matcher, moment, nonce, turns, trace, &mut texts,
     ) {
         Ok(outcome) => tell_texts(alloc, outcome, trace, texts.bytes(), out, ends),

@@ -15,7 +15,7 @@ use cf_headers::Tree;
 use cf_input::Word;
 use cf_match::Matcher;
 use cf_place::PeerEnd;
-use cf_run::{Outcome, sync_over};
+use cf_run::{Outcome, sync_traced};
 use cf_run_text::text_of;
 use cf_scan::Watch;
 use cf_wires::Wires;
@@ -95,7 +95,7 @@ pub fn run_once<F: Files, W: Wires, M: Matcher + Drop, O: Sink>(
         return Status::NoMemory;
     };
     keep_where(wires, log_file);
-    match sync_over(
+    match sync_traced(
         alloc, wires, names, watch, store, matcher, moment, nonce, turns, trace,
     ) {
         Ok(outcome) => tell(alloc, files, wires, log_file, outcome, trace, out, ends),

@@ -51,7 +51,7 @@ pub fn sync_played<H: HeaderStore + Drop, M: Matcher + Drop>(
     // The peers' chains are good.
     played.same_peers();
     let outcome = sync_over(
-        alloc, played, names, watch, store, matcher, moment, nonce, turns, true,
+        alloc, played, names, watch, store, matcher, moment, nonce, turns,
     );
     // What was delivered and what waits is what each peer answers, and the peers are those that were there before.
     played.accounts();

@@ -1,5 +1,5 @@
 //! A run that follows: the dials, the deliveries, and the texts of its moments at rest.
-ghost use Rattle.std.specs.Prelude.{◌≡◌, ◌≢◌, ℕ, None, ◌<◌, ◌≤◌, ◌+◌, ◌∷◌, [], List, Option, OnOk, IfOk, IfErr, IfNone, IfSome, Some, false, length, string_bytes, if◌then◌else◌};
+ghost use Rattle.std.specs.Prelude.{◌≡◌, ◌≢◌, ℕ, None, ◌<◌, ◌≤◌, ◌+◌, ◌∷◌, [], List, Option, OnOk, IfOk, IfErr, IfNone, IfSome, Some, false, true, length, string_bytes, if◌then◌else◌};
 ghost use Rattle.std.specs.Bool.{Decides};
 ghost use Rattle.cf_client.specs.{Reflects, count_of, rule_by, watch_by, greeting_by};
 ghost use Rattle.cf_peer.specs.declared.mode.Mode.TheVariants.{Following};
@@ -274,8 +274,43 @@ fn follow_all<W: Wires, H: HeaderStore + Drop, M: Matcher + Drop, T: Texts>(
 /// that was put. It ends with `Synced` where the turns are taken or the wires give no more with nothing open, and a
 /// peer is connected. The wires are new: nothing has passed them, and they aren't finished. They are finished once,
 /// whatever is answered; and whatever is, what was sent might be sent, and who was closed deserved it. In the store no
-/// peer is entered. What the run has done is kept line by line where this is wanted, and else no line.
+/// peer is entered. What the run has done is kept line by line.
 pub fn follow_over<W: Wires, H: HeaderStore + Drop, M: Matcher + Drop, T: Texts>(
+    alloc: Global,
+    wires: &mut W,
+    names: &[String],
+    watch: Watch,
+    store: H,
+    matcher: M,
+    moment: i64,
+    nonce: u64,
+    turns: u32,
+    texts: &mut T,
+) -> Result<Outcome, TextFail>
+    requires wires { AreNewWires (W.told wires.old) }
+    requires few { length names.now ≤ 8 }
+    requires empty { (q : ℕ) → H.chain store q ≡ None }
+    ensures outcome { IfOk result
+        (λ o. IfSome (W.told wires.new).log (IsOutcome H.counts (following watch) true (names_in names.now) o)) }
+    ensures theorem { IfOk result (λ o. IfSome (W.told wires.new).log (λ log.
+        FollowTheorem watch o.height o.tip o.history log)) }
+    ensures within { IfOk result (λ o. EndsWithin o.end (length names.now) turns (W.told wires.new).tally) }
+    ensures done { IfOk result (λ o. o.end ≡ End.Synced → IsOver turns (W.told wires.new).tally) }
+    ensures wires { LeavesWires W.told W.faults W.script W.keeps (record { moment = moment; number = nonce })
+        (names_in names.now) turns wires.old wires.new }
+    ensures right { IsRight Following (W.told wires.new) }
+    ensures put { OnOk result (PutsAll T.told T.faults watch (W.told wires.new).log texts.old texts.new) }
+    ensures cut { IfErr result (λ fail.
+        GivesUp fail T.told T.faults watch (names_in names.now) (W.told wires.new) texts.old texts.new) }
+    ensures same_reference { T.holds texts.new ≡ T.holds texts.old }
+{
+    follow_traced(
+        alloc, wires, names, watch, store, matcher, moment, nonce, turns, true, texts,
+    )
+}
+
+/// The same as `follow_over`, where what the run has done is kept line by line if that is wanted, and else no line.
+pub fn follow_traced<W: Wires, H: HeaderStore + Drop, M: Matcher + Drop, T: Texts>(
     alloc: Global,
     wires: &mut W,
     names: &[String],

@@ -9,8 +9,8 @@ mod shown;
 mod texts;
 mod trace;
 
-pub use follow::follow_over;
+pub use follow::{follow_over, follow_traced};
 pub use outcome::{End, Outcome};
-pub use over::sync_over;
+pub use over::{sync_over, sync_traced};
 pub use texts::{KeptTexts, Live, TextFail, Texts};
 pub use trace::TraceLine;

@@ -587,8 +587,37 @@ fn sync_all<W: Wires, H: HeaderStore + Drop, M: Matcher + Drop>(
 /// whose filters the peers differ, or whose filter the matcher doesn't answer with a miss (BIP 157, "Client
 /// Operation"). The wires are new: nothing has passed them, and they aren't finished. They are finished once, whatever
 /// is answered; and whatever is, what was sent might be sent, and who was closed deserved it. In the store no peer is
-/// entered. What the run has done is kept line by line where this is wanted, and else no line.
+/// entered. What the run has done is kept line by line.
 pub fn sync_over<W: Wires, H: HeaderStore + Drop, M: Matcher + Drop>(
+    alloc: Global,
+    wires: &mut W,
+    names: &[String],
+    watch: Watch,
+    store: H,
+    matcher: M,
+    moment: i64,
+    nonce: u64,
+    turns: u32,
+) -> Result<Outcome, NoMemory>
+    requires wires { AreNewWires (W.told wires.old) }
+    requires few { length names.now ≤ 8 }
+    requires empty { (q : ℕ) → H.chain store q ≡ None }
+    ensures outcome { IfOk result
+        (λ o. IfSome (W.told wires.new).log (IsOutcome H.counts (once watch) true (names_in names.now) o)) }
+    ensures theorem { IfOk result
+        (λ o. IfSome (W.told wires.new).log (λ log. SyncTheorem watch o.height o.tip o.history log)) }
+    ensures within { IfOk result (λ o. EndsWithin o.end (length names.now) turns (W.told wires.new).tally) }
+    ensures right { IsRight Once (W.told wires.new) }
+    ensures wires { LeavesWires W.told W.faults W.script W.keeps (record { moment = moment; number = nonce })
+        (names_in names.now) turns wires.old wires.new }
+{
+    sync_traced(
+        alloc, wires, names, watch, store, matcher, moment, nonce, turns, true,
+    )
+}
+
+/// The same as `sync_over`, where what the run has done is kept line by line if that is wanted, and else no line.
+pub fn sync_traced<W: Wires, H: HeaderStore + Drop, M: Matcher + Drop>(
     alloc: Global,
     wires: &mut W,
     names: &[String],

@@ -24,49 +24,49 @@ returns-in_default-clause-ends g c = ends_stay _ _ _ _ _ refl
 -- ---- nor in it
 
 pub returns-in-Err-clause-ran : goal.returns-in-Err-clause-ran
-returns-in-Err-clause-ran g c = once_spent c.args.watch (is_some c.args.log_file.now) c.args.trace (g.O.Sink.written c.args.out.now) _ c.sync_over.ensures.right c.sync_over.ensures.wires
+returns-in-Err-clause-ran g c = once_spent c.args.watch (is_some c.args.log_file.now) c.args.trace (g.O.Sink.written c.args.out.now) _ c.sync_traced.ensures.right c.sync_traced.ensures.wires
 
 pub returns-in-Err-clause-wires : goal.returns-in-Err-clause-wires
 returns-in-Err-clause-wires g c =
-    wires_left (to_z-of_z {w = w64} {z = c.args.moment} (search rules)) c.keep_where.ensures.later c.keep_where.ensures.unkept c.sync_over.ensures.wires refl
+    wires_left (to_z-of_z {w = w64} {z = c.args.moment} (search rules)) c.keep_where.ensures.later c.keep_where.ensures.unkept c.sync_traced.ensures.wires refl
 
 pub returns-in-Err-clause-ends : goal.returns-in-Err-clause-ends
 returns-in-Err-clause-ends g c = ends_stay _ _ _ _ _ refl
 
 -- ---- it was made
 
-pub returns-in-Ok-sync_over-clause-ran : goal.returns-in-Ok-sync_over-clause-ran
-returns-in-Ok-sync_over-clause-ran g c =
-    once_told CountsOnce c.args.watch c.args.names.now c.in-Ok-sync_over.outcome c.tell.result (is_some c.args.log_file.now) c.args.trace _
-    c.in-Ok-sync_over.ensures.outcome c.in-Ok-sync_over.ensures.theorem c.sync_over.ensures.right c.in-Ok-sync_over.ensures.within c.sync_over.ensures.wires c.tell.ensures.told
+pub returns-in-Ok-sync_traced-clause-ran : goal.returns-in-Ok-sync_traced-clause-ran
+returns-in-Ok-sync_traced-clause-ran g c =
+    once_told CountsOnce c.args.watch c.args.names.now c.in-Ok-sync_traced.outcome c.tell.result (is_some c.args.log_file.now) c.args.trace _
+    c.in-Ok-sync_traced.ensures.outcome c.in-Ok-sync_traced.ensures.theorem c.sync_traced.ensures.right c.in-Ok-sync_traced.ensures.within c.sync_traced.ensures.wires c.tell.ensures.told
 
-pub returns-in-Ok-sync_over-clause-wires : goal.returns-in-Ok-sync_over-clause-wires
-returns-in-Ok-sync_over-clause-wires g c =
-    wires_left (to_z-of_z {w = w64} {z = c.args.moment} (search rules)) c.keep_where.ensures.later c.keep_where.ensures.unkept c.sync_over.ensures.wires
+pub returns-in-Ok-sync_traced-clause-wires : goal.returns-in-Ok-sync_traced-clause-wires
+returns-in-Ok-sync_traced-clause-wires g c =
+    wires_left (to_z-of_z {w = w64} {z = c.args.moment} (search rules)) c.keep_where.ensures.later c.keep_where.ensures.unkept c.sync_traced.ensures.wires
     (begun_told c.tell.result _ c.tell.ensures.told)
 
-pub returns-in-Ok-sync_over-clause-unwritten : goal.returns-in-Ok-sync_over-clause-unwritten
-returns-in-Ok-sync_over-clause-unwritten g c = unwritten_told_of c.tell.result _ c.tell.ensures.told
+pub returns-in-Ok-sync_traced-clause-unwritten : goal.returns-in-Ok-sync_traced-clause-unwritten
+returns-in-Ok-sync_traced-clause-unwritten g c = unwritten_told_of c.tell.result _ c.tell.ensures.told
 
-pub returns-in-Ok-sync_over-clause-begun : goal.returns-in-Ok-sync_over-clause-begun
-returns-in-Ok-sync_over-clause-begun g c = begun_told c.tell.result _ c.tell.ensures.told
+pub returns-in-Ok-sync_traced-clause-begun : goal.returns-in-Ok-sync_traced-clause-begun
+returns-in-Ok-sync_traced-clause-begun g c = begun_told c.tell.result _ c.tell.ensures.told
 
-pub returns-in-Ok-sync_over-clause-ends : goal.returns-in-Ok-sync_over-clause-ends
-returns-in-Ok-sync_over-clause-ends g c =
-    ends_told c.in-Ok-sync_over.outcome.end c.in-Ok-sync_over.outcome.ends.items c.tell.result _ _ _ c.tell.ensures.told
-    (copied (g.W.Wires.told c.sync_over.new.wires) CountsOnce (once c.args.watch) c.args.trace c.args.names.now c.in-Ok-sync_over.outcome _ refl c.in-Ok-sync_over.ensures.outcome
-    c.sync_over.ensures.wires.finished c.in-Ok-sync_over.ensures.within)
+pub returns-in-Ok-sync_traced-clause-ends : goal.returns-in-Ok-sync_traced-clause-ends
+returns-in-Ok-sync_traced-clause-ends g c =
+    ends_told c.in-Ok-sync_traced.outcome.end c.in-Ok-sync_traced.outcome.ends.items c.tell.result _ _ _ c.tell.ensures.told
+    (copied (g.W.Wires.told c.sync_traced.new.wires) CountsOnce (once c.args.watch) c.args.trace c.args.names.now c.in-Ok-sync_traced.outcome _ refl c.in-Ok-sync_traced.ensures.outcome
+    c.sync_traced.ensures.wires.finished c.in-Ok-sync_traced.ensures.within)
 
 -- ---- the calls
 
-pub sync_over-requires-clause-wires : goal.sync_over-requires-clause-wires
-sync_over-requires-clause-wires g c = record { log = c.keep_where.ensures.fresh; finished = c.keep_where.ensures.finished ∙ c.requires.wires.finished }
+pub sync_traced-requires-clause-wires : goal.sync_traced-requires-clause-wires
+sync_traced-requires-clause-wires g c = record { log = c.keep_where.ensures.fresh; finished = c.keep_where.ensures.finished ∙ c.requires.wires.finished }
 
 pub tell-requires-clause-keeps : goal.tell-requires-clause-keeps
-tell-requires-clause-keeps g c = λ on. c.sync_over.ensures.wires.kept ∙ c.keep_where.ensures.keeps on
+tell-requires-clause-keeps g c = λ on. c.sync_traced.ensures.wires.kept ∙ c.keep_where.ensures.keeps on
 
 pub tell-requires-clause-told : goal.tell-requires-clause-told
-tell-requires-clause-told g c = λ on. c.sync_over.ensures.wires.course.logged (c.keep_where.ensures.told on)
+tell-requires-clause-told g c = λ on. c.sync_traced.ensures.wires.course.logged (c.keep_where.ensures.told on)
 
 -- ---- what stays
 
@@ -86,7 +86,7 @@ pub returns-in_default-clause-begun : goal.returns-in_default-clause-begun
 returns-in_default-clause-begun g c = refl
 
 pub returns-in-Err-clause-same : goal.returns-in-Err-clause-same
-returns-in-Err-clause-same g c = c.sync_over.ensures.wires.course.script ∙ c.keep_where.ensures.same
+returns-in-Err-clause-same g c = c.sync_traced.ensures.wires.course.script ∙ c.keep_where.ensures.same
 
 pub returns-in-Err-clause-files : goal.returns-in-Err-clause-files
 returns-in-Err-clause-files g c = files_spared g.F.Files.writes c.args.log_file.now c.args.files.now
@@ -100,11 +100,11 @@ returns-in-Err-clause-unwritten g c = λ off. refl
 pub returns-in-Err-clause-begun : goal.returns-in-Err-clause-begun
 returns-in-Err-clause-begun g c = refl
 
-pub returns-in-Ok-sync_over-clause-same : goal.returns-in-Ok-sync_over-clause-same
-returns-in-Ok-sync_over-clause-same g c = c.sync_over.ensures.wires.course.script ∙ c.keep_where.ensures.same
+pub returns-in-Ok-sync_traced-clause-same : goal.returns-in-Ok-sync_traced-clause-same
+returns-in-Ok-sync_traced-clause-same g c = c.sync_traced.ensures.wires.course.script ∙ c.keep_where.ensures.same
 
-pub returns-in-Ok-sync_over-clause-files : goal.returns-in-Ok-sync_over-clause-files
-returns-in-Ok-sync_over-clause-files g c = c.tell.ensures.files
+pub returns-in-Ok-sync_traced-clause-files : goal.returns-in-Ok-sync_traced-clause-files
+returns-in-Ok-sync_traced-clause-files g c = c.tell.ensures.files
 
-pub returns-in-Ok-sync_over-clause-counts : goal.returns-in-Ok-sync_over-clause-counts
-returns-in-Ok-sync_over-clause-counts g c = c.tell.ensures.counts
+pub returns-in-Ok-sync_traced-clause-counts : goal.returns-in-Ok-sync_traced-clause-counts
+returns-in-Ok-sync_traced-clause-counts g c = c.tell.ensures.counts

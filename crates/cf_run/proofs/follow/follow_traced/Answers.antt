@@ -8,7 +8,7 @@ use Rattle.cf_run.specs.Names.{names_in}
 use Rattle.cf_run.proofs.Passing.{leaves_wires}
 use Rattle.cf_run.proofs.Puts.{gives_finished}
 use Rattle.cf_run.proofs.Versions.{greeting_so}
-use Rattle.cf_run.proofs.follow.follow_over.Goals as goal
+use Rattle.cf_run.proofs.follow.follow_traced.Goals as goal
 
 pub returns : goal.returns
 returns g c =

@@ -6,7 +6,7 @@ use Rattle.std.specs.Int.{w64}
 use Rattle.cf_sync.proofs.Settles.{sync_theorem_of}
 use Rattle.cf_run.proofs.Passing.{leaves_wires}
 use Rattle.cf_run.proofs.Versions.{greeting_so}
-use Rattle.cf_run.proofs.over.sync_over.Goals as goal
+use Rattle.cf_run.proofs.over.sync_traced.Goals as goal
 
 pub returns-clause-outcome : goal.returns-clause-outcome
 returns-clause-outcome g c = rw c.finish.ensures.told c.sync_all-outcome.ensures.outcome
