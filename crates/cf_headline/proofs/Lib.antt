@@ -1,0 +1,6 @@
+pub mod Again
+pub mod Parts
+pub mod Strings
+pub mod Others
+pub mod Timely
+pub mod Serving

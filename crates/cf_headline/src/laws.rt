@@ -1,0 +1,13 @@
+//! Laws of logs: functions that do nothing, whose contracts say them.
+ghost use Rattle.std.specs.Prelude.{◌≡◌, ℕ, Bool, true, List};
+ghost use Rattle.cf_wires.specs.Log.{Log};
+ghost use Rattle.cf_sync.specs.Fetching.{AreBytes, Rightly};
+ghost use Rattle.cf_headline.specs.Grounds.{HasWritten, WereGreeted};
+ghost use Rattle.cf_headline.specs.Headline.{Headline};
+
+/// The headline, of each log in which the client did as it may: what it has written once it has asked all that it may
+/// and nothing is open is the scan of the chain that a peer serves, and such a peer is never closed.
+pub fn the_headline()
+    ensures { (done : Bool) (scripts : List (List ℕ)) (text : List ℕ) (log : Log) → AreBytes log → Rightly log
+        → WereGreeted log → (done ≡ true → HasWritten scripts text log) → Headline (done ≡ true) scripts text log }
+{}
