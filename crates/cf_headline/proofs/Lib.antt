@@ -4,3 +4,4 @@ pub mod Strings
 pub mod Others
 pub mod Timely
 pub mod Serving
+pub mod Sends

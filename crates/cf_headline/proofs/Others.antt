@@ -41,7 +41,7 @@ use Rattle.cf_headline.proofs.Strings.{written}
 abbrev AreToldIn : List (List Header) → List Msg → Type 0
 AreToldIn hss ms = (h : Header) → IsShown hss h → IsShown (lists_of ms) h
 
-shown_either : (xs ys : List (List Header)) (h : Header) → IsShown (xs ++ ys) h → IsShown xs h ⊎ IsShown ys h
+pub shown_either : (xs ys : List (List Header)) (h : Header) → IsShown (xs ++ ys) h → IsShown xs h ⊎ IsShown ys h
 shown_either [] ys h is = inr is
 shown_either (x ∷ xs) ys h (inl now) = inl (inl now)
 shown_either (x ∷ xs) ys h (inr later) = elim (shown_either xs ys h later) [ inl one ↦ inl (inr one) | inr two ↦ inr two ]
@@ -55,7 +55,7 @@ shown_right : (xs ys : List (List Header)) (h : Header) → IsShown ys h → IsS
 shown_right [] ys h is = is
 shown_right (x ∷ xs) ys h is = inr (shown_right xs ys h is)
 
-one_list : (m : Msg) (ms : List Msg) → lists_of (m ∷ ms) ≡ lists_in m ++ lists_of ms
+pub one_list : (m : Msg) (ms : List Msg) → lists_of (m ∷ ms) ≡ lists_in m ++ lists_of ms
 one_list (Headers hs) ms = refl
 one_list m ms = refl
 

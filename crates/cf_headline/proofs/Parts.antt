@@ -20,7 +20,7 @@ use Rattle.cf_wires.specs.Log.{Log}
 use Rattle.cf_sync.specs.Fetching.{AreBytes}
 use Rattle.cf_sync.specs.Honesty.{messages_asked, messages_said, IsSpelled}
 use Rattle.cf_sync.proofs.Entries.{at_either}
-use Rattle.cf_headline.specs.Headline.{bytes_from, all_from, sends_to, WasSent}
+use Rattle.cf_headline.specs.Headline.{bytes_from, sends_to, WasSent}
 use Rattle.cf_headline.proofs.Again.{msg_of, messages_in, AreRead, messages_append, read_left, read_right, bytes_both, spelled_again}
 
 -- what is said of a peer in two ways, by whether an entry names it

@@ -43,11 +43,11 @@ use Rattle.cf_headline.proofs.Parts.{at_one, from_bytes, reads, asked_is}
 -- ---- a frame changes nothing of what follows
 
 -- to be heard asks nothing, greets nobody and takes no time
-record Unmoved (t u : Trail) : Type 0 where
-  asked : messages_asked u ≡ messages_asked t
-  greeted : is_greeted u ≡ is_greeted t
-  on : is_connected u ≡ is_connected t
-  old : age u ≡ age t
+pub record Unmoved (t u : Trail) : Type 0 where
+  pub asked : messages_asked u ≡ messages_asked t
+  pub greeted : is_greeted u ≡ is_greeted t
+  pub on : is_connected u ≡ is_connected t
+  pub old : age u ≡ age t
 
 unmoved_item : (f : Frame) (t : Trail) → Unmoved t (item_of f ∷ t)
 unmoved_item f t = elim (message_of f) as (λ r. Unmoved t (item_of_read r ∷ t)) [
@@ -66,7 +66,7 @@ unmoved_fault : (o : Option FrameFault) (t u : Trail) → Unmoved t u → Unmove
 unmoved_fault None t u same = same
 unmoved_fault (Some fault) t u same = record { asked = same.asked; greeted = same.greeted; on = same.on; old = same.old }
 
-unmoved_piece : (piece : List ℕ) (part : Part) → Unmoved part.trail (heard_part piece part).trail
+pub unmoved_piece : (piece : List ℕ) (part : Part) → Unmoved part.trail (heard_part piece part).trail
 unmoved_piece piece part =
     let r : StreamRead = read_stream (part.waits ++ piece) in
     unmoved_fault r.fault part.trail (hears r.frames part.trail) (unmoved_hears r.frames part.trail)

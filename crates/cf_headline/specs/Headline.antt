@@ -6,6 +6,8 @@ use Rattle.cf_block.specs.declared.tx.Block.{Block}
 use Rattle.cf_block.specs.Header.{header_spelling, genesis_header}
 use Rattle.cf_chain.specs.Good.{IsGoodChain, headers_of}
 use Rattle.cf_chain.specs.Serve.{replies}
+use Rattle.cf_frame.specs.declared.frame.Frame.{Frame}
+use Rattle.cf_frame.specs.Frame.{IsFrame, spelling}
 use Rattle.cf_headers.specs.Chain.{Chain, IsIn, NoHashClash, tip_hash}
 use Rattle.cf_headers.specs.Shown.{Shows}
 use Rattle.cf_msg.specs.declared.msg.Msg.{Msg}
@@ -27,12 +29,6 @@ bytes_from [] p = []
 bytes_from (Dialled q name ∷ log) p = if q.0 == p then [] else bytes_from log p
 bytes_from (Took (Got q piece) ∷ log) p = if q.0 == p then bytes_from log p ++ piece else bytes_from log p
 bytes_from (_ ∷ log) p = bytes_from log p
-
--- all bytes that ever came from p, in order
-abbrev pub all_from : Log → ℕ → List ℕ
-all_from [] p = []
-all_from (Took (Got q piece) ∷ log) p = if q.0 == p then all_from log p ++ piece else all_from log p
-all_from (_ ∷ log) p = all_from log p
 
 -- what was sent to p since it was dialled, in order
 abbrev pub sends_to : Log → ℕ → List (List ℕ)
@@ -80,12 +76,13 @@ pub record SaysAll (ms : List Msg) (bytes : List ℕ) : Type 0 where
   pub some : more ≢ []
   pub begun : says.rest ++ more ≡ bytes_of next
 
--- a message stands among bytes, as it is written
+-- bytes are whole frames, as they are written, and then this message and more
 pub record StandsIn (m : Msg) (bytes : List ℕ) : Type 0 where
   pub fits : IsSendable m
-  pub before : List ℕ
-  pub after : List ℕ
-  pub joined : bytes ≡ before ++ (bytes_of m ++ after)
+  pub frames : List Frame
+  pub each : AllByRecursion IsFrame frames
+  pub rest : List ℕ
+  pub joined : bytes ≡ flat_map spelling frames ++ (bytes_of m ++ rest)
 
 -- these messages were sent to p
 abbrev pub WasSent : List Msg → Log → ℕ → Type 0
@@ -112,9 +109,11 @@ abbrev pub WasHonest : Log → ℕ → List Block → Type 0
 WasHonest [] p blocks = Unit {0}
 WasHonest (e ∷ log) p blocks = IsHonestAt (e ∷ log) p blocks × Stays e p × WasHonest log p blocks
 
--- a string of a message that stands in what came from anybody
+-- a string of a message that stands in what had come from somebody by some moment
 abbrev pub IsCarried : Log → List ℕ → Type 0
-IsCarried log bytes = (q : ℕ) × ((m : Msg) × (StandsIn m (all_from log q) × IsIn bytes (strings_of m)))
+IsCarried [] bytes = ⊥
+IsCarried (e ∷ log) bytes =
+    ((q : ℕ) × ((m : Msg) × (StandsIn m (bytes_from (e ∷ log) q) × IsIn bytes (strings_of m)))) ⊎ IsCarried log bytes
 
 -- one of those, or of the chain, or genesis's header
 abbrev pub IsString : Log → List Block → List ℕ → Type 0

@@ -3,4 +3,4 @@
 
 mod laws;
 
-pub use laws::the_headline;
+pub use laws::{the_headline, what_is_sent_is_messages};
