@@ -1,10 +1,9 @@
 -- What was written is read again: messages one after another, and a beginning of one more.
-use Rattle.std.proofs.Common.{◌≡◌, ◌≢◌, inl, inr, ℕ, zero, suc, List, [], ◌∷◌, ◌++◌, map, Option, Some, None, Result, Ok, Err, refl, sym, ap, ◌∙◌, subst, append_assoc, arith}
+use Rattle.std.proofs.Common.{◌≡◌, ◌≢◌, ℕ, zero, suc, List, [], ◌∷◌, ◌++◌, map, Some, None, Result, Ok, Err, refl, sym, ap, ◌∙◌, subst, append_assoc, arith}
 use Rattle.std.proofs.lemmas.List.{append-nil}
 use Rattle.std.specs.List.{flat_map, AllByRecursion}
 use Rattle.cf_bytes.specs.Cut.{IsBytes}
 use Rattle.cf_frame.specs.declared.frame.Frame.{Frame}
-use Rattle.cf_frame.specs.declared.frame.FrameFault.{FrameFault}
 use Rattle.cf_frame.specs.Frame.{IsFrame, spelling}
 use Rattle.cf_frame.specs.Reading.{Front, front_of}
 use Rattle.cf_frame.specs.Stream.{StreamRead, read_stream, with_frame, with_frames}

@@ -5,3 +5,4 @@ pub mod Others
 pub mod Timely
 pub mod Serving
 pub mod Sends
+pub mod Worked

@@ -17,7 +17,7 @@ use Rattle.cf_msg.specs.declared.msg.Msg.TheVariants.{Headers}
 use Rattle.cf_msg.specs.Reading.{message_of}
 use Rattle.cf_peer.specs.Acts.{bytes_of, IsSendable}
 use Rattle.cf_peer.specs.Asking.{counted, counts, lists, lists_in, verdict, fault_of}
-use Rattle.cf_peer.specs.Trail.{Trail, Part, Called, Said, Refused, Asked, Passed, Lost, called_part, with_item, item_of, item_of_read, hears, hears_fault, part_after, heard_part, spelled, asks, part_of, trail, is_connected, ready, first}
+use Rattle.cf_peer.specs.Trail.{Trail, Part, Called, Said, Refused, Asked, Passed, Lost, called_part, with_item, item_of, item_of_read, hears, hears_fault, heard_part, spelled, asks, part_of, trail, is_connected, ready, first}
 use Rattle.cf_peer.specs.declared.peer.Cause.{Cause}
 use Rattle.cf_peer.specs.declared.peer.Cause.TheVariants.{BadFrame, Malformed as IsMalformed}
 use Rattle.std.specs.Prelude.{is_none}
@@ -32,7 +32,7 @@ use Rattle.cf_sync.proofs.Chains.{headers_length}
 use Rattle.cf_sync.proofs.Entries.{at_either}
 use Rattle.cf_headline.specs.Headline.{bytes_from, was_dialled, is_there, Says, lists_of, IsLongest}
 use Rattle.cf_headline.proofs.Again.{bytes_left, bytes_right, bytes_both}
-use Rattle.cf_headline.proofs.Parts.{at_both, from_bytes}
+use Rattle.cf_headline.proofs.Parts.{at_both}
 use Rattle.cf_headline.proofs.Strings.{written}
 
 -- ---- lists of headers

@@ -1,8 +1,6 @@
 -- The headline, from the sync theorem.
 use Rattle.std.proofs.Common.{◌≡◌, ℕ, List, length, ◌∙◌, ap}
 use Rattle.cf_block.specs.declared.tx.Block.{Block}
-use Rattle.cf_chain.specs.Good.{headers_of}
-use Rattle.cf_headers.specs.Chain.{tip_hash}
 use Rattle.cf_scan.specs.HistoryText.{history_text}
 use Rattle.cf_scan.specs.Scan.{scan_of}
 use Rattle.cf_wires.specs.Log.{Log}

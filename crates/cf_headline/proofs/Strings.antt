@@ -1,5 +1,5 @@
 -- Each message that was said stands in what came, as it is written: so the strings that were hashed are among those that came.
-use Rattle.std.proofs.Common.{◌≡◌, ◌⊎◌, inl, inr, ℕ, ◌≤◌, List, [], ◌∷◌, ◌++◌, length, Option, Some, None, Result, Ok, Err, Bool, if◌then◌else◌, ◌==◌, refl, sym, ap, ◌∙◌, subst, append_assoc, arith}
+use Rattle.std.proofs.Common.{◌≡◌, ◌⊎◌, inl, inr, ℕ, ◌≤◌, List, [], ◌∷◌, ◌++◌, length, Option, Some, None, Result, Ok, Err, if◌then◌else◌, ◌==◌, refl, sym, ap, ◌∙◌, subst, append_assoc, arith}
 use Rattle.std.proofs.lemmas.List.{append-nil}
 use Rattle.std.specs.List.{flat_map, AllByRecursion}
 use Rattle.cf_block.specs.declared.tx.Block.{Block}
@@ -13,13 +13,13 @@ use Rattle.cf_frame.proofs.Relations.{stream_whole}
 use Rattle.cf_headers.specs.Chain.{IsIn, NoHashClash}
 use Rattle.cf_msg.specs.declared.msg.Malformed.{Malformed}
 use Rattle.cf_msg.specs.declared.msg.Msg.{Msg}
-use Rattle.cf_msg.specs.Message.{payload_of, frame_of}
+use Rattle.cf_msg.specs.Message.{frame_of}
 use Rattle.cf_msg.specs.Reading.{message_of}
 use Rattle.cf_msg.proofs.Table.{carried}
 use Rattle.cf_peer.specs.Acts.{bytes_of, IsSendable}
 use Rattle.cf_peer.specs.Asking.{HasSaid}
 use Rattle.cf_peer.specs.declared.peer.Cause.TheVariants.{BadFrame}
-use Rattle.cf_peer.specs.Trail.{Trail, Part, Called, Said, Refused, Asked, Passed, Lost, called_part, with_item, item_of, item_of_read, hears, hears_fault, part_after, heard_part, spelled, asks, part_of, trail}
+use Rattle.cf_peer.specs.Trail.{Trail, Part, Refused, Asked, Passed, Lost, called_part, with_item, item_of, item_of_read, hears, hears_fault, heard_part, spelled, asks, part_of, trail}
 use Rattle.cf_wires.specs.declared.event.Delivery.TheVariants.{Got, Gone, Tick, Ended}
 use Rattle.cf_wires.specs.declared.event.Event.{Event}
 use Rattle.cf_wires.specs.declared.event.Event.TheVariants.{Dialled, NotDialled, Sent, SendFailed, Closed, Took}

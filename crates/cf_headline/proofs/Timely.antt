@@ -1,5 +1,5 @@
 -- What was sent a minute ago or more is answered: so an honest peer is never late. And so it is honest by its trail.
-use Rattle.std.proofs.Common.{◌≡◌, ◌≢◌, ◌⊎◌, inl, inr, ℕ, zero, suc, pred, pos, ◌+◌, ◌-◌, ◌<◌, ◌≤◌, List, [], ◌∷◌, ◌++◌, map, reverse, take, length, Option, Some, None, Result, Ok, Err, Bool, true, false, not, ◌&&◌, ◌||◌, if◌then◌else◌, ◌==◌, refl, sym, ap, ◌∙◌, subst, append_assoc, arith, eqb-true, length-take-le}
+use Rattle.std.proofs.Common.{◌≡◌, ◌≢◌, inl, inr, ℕ, pred, pos, ◌+◌, ◌-◌, ◌<◌, ◌≤◌, List, [], ◌∷◌, ◌++◌, map, take, length, Option, Some, None, Ok, Err, Bool, true, false, not, ◌&&◌, ◌||◌, if◌then◌else◌, ◌==◌, refl, sym, ap, ◌∙◌, subst, append_assoc, arith, eqb-true, length-take-le}
 use Rattle.std.proofs.lemmas.Bool.{cases_lt, false≢true}
 use Rattle.std.proofs.lemmas.List.{append-nil, length-map, length-reverse}
 use Rattle.cf_block.specs.declared.tx.Block.{Block}
@@ -13,25 +13,24 @@ use Rattle.cf_frame.specs.declared.frame.FrameFault.{FrameFault}
 use Rattle.cf_frame.specs.Stream.{StreamRead, read_stream}
 use Rattle.cf_headers.specs.Chain.{Hash, Chain, above, back_to, height_limit, NoHashClash, IsWithinLimit}
 use Rattle.cf_match.specs.declared.job.Job.{Job}
-use Rattle.cf_msg.specs.declared.msg.Malformed.{Malformed}
 use Rattle.cf_msg.specs.declared.msg.Msg.{Msg}
 use Rattle.cf_msg.specs.declared.msg.Msg.TheVariants.{Version, Verack, Ping, Pong, GetHeaders, Headers, GetData, Block as BlockMessage, GetCfheaders, Cfheaders, GetCfilters, Cfilter}
-use Rattle.cf_msg.specs.Message.{is_version, frame_of}
+use Rattle.cf_msg.specs.Message.{is_version}
 use Rattle.cf_msg.specs.Reading.{message_of}
-use Rattle.cf_peer.specs.Asking.{OpenRequest, NothingOpen, HeadersOpen, ClaimsOpen, FiltersOpen, BlockOpen, PingOpen, request, request_after, request_for, filters_left, filter_of, filters_asked, claims_asked, block_asked, blocks_from, is_answer_of, is_wanted, is_idle, is_open, is_request, age, claims, IsRange, MayAsk}
-use Rattle.cf_peer.specs.Trail.{Trail, Part, Called, Said, Refused, Asked, Passed, Lost, called_part, with_item, item_of, item_of_read, hears, hears_fault, part_after, heard_part, spelled, asks, part_of, trail, is_connected, is_greeted, own, ready, has_version}
+use Rattle.cf_peer.specs.Asking.{OpenRequest, NothingOpen, HeadersOpen, ClaimsOpen, FiltersOpen, BlockOpen, PingOpen, request, request_after, filters_left, filter_of, filters_asked, claims_asked, blocks_from, is_answer_of, is_wanted, is_idle, is_open, is_request, age, claims, MayAsk}
+use Rattle.cf_peer.specs.Trail.{Trail, Part, Called, Said, Refused, Asked, Passed, Lost, called_part, with_item, item_of, item_of_read, hears, hears_fault, heard_part, spelled, asks, part_of, trail, is_connected, is_greeted, own, ready, has_version}
 use Rattle.cf_wires.specs.declared.event.Delivery.TheVariants.{Got, Gone, Tick, Ended}
 use Rattle.cf_wires.specs.declared.event.Event.{Event}
 use Rattle.cf_wires.specs.declared.event.Event.TheVariants.{Dialled, NotDialled, Sent, SendFailed, Closed, Took}
 use Rattle.cf_wires.specs.declared.event.Mark.TheVariants as mark
 use Rattle.cf_wires.specs.Log.{Log}
-use Rattle.cf_sync.specs.Fetching.{AreBytes, IsConnected, Rightly}
+use Rattle.cf_sync.specs.Fetching.{AreBytes, Rightly}
 use Rattle.cf_sync.specs.Honesty.{messages_asked, messages_said, plain, Leaves, IsPrefixOf, answers, AnswersAs, InTime, IsHonestOver}
 use Rattle.cf_sync.specs.Sync.{IsHashed}
 use Rattle.cf_sync.proofs.Blamed.{bytes_before, clash_before, never_omits}
 use Rattle.cf_sync.proofs.Chains.{headers_length}
 use Rattle.cf_sync.proofs.Entries.{at_either}
-use Rattle.cf_sync.proofs.HonestLemmas.{Keeps, Good, honest_good, rightly_before}
+use Rattle.cf_sync.proofs.HonestLemmas.{Good, honest_good, rightly_before}
 use Rattle.cf_sync.proofs.Ranges.{names}
 use Rattle.cf_sync.proofs.Serves.{Owes}
 use Rattle.cf_sync.proofs.Settles.{setting_from}
@@ -73,26 +72,24 @@ unmoved_piece piece part =
 
 -- ---- the machine's answers to one message more
 
-seen_after : Bool → List Msg → Bool
+-- a version came before or is among these messages
+abbrev pub seen_after : Bool → List Msg → Bool
 seen_after seen [] = seen
 seen_after seen (m ∷ ms) = seen_after (is_version m || seen) ms
 
 seen_append : (seen : Bool) (ms : List Msg) (m : Msg) → seen_after seen (ms ++ m ∷ []) ≡ (is_version m || seen_after seen ms)
-unfolding seen_after
 seen_append seen [] m = refl
 seen_append seen (n ∷ ms) m = seen_append (is_version n || seen) ms m
 
 more_replies : (blocks : List Block) (seen : Bool) (ms : List Msg) (m : Msg)
     → replies (pos 0) 0 blocks seen (ms ++ m ∷ []) ≡ replies (pos 0) 0 blocks seen ms ++ replies_to (pos 0) 0 blocks (seen_after seen ms) m
-unfolding seen_after
 more_replies blocks seen [] m = append-nil (replies_to (pos 0) 0 blocks seen m)
 more_replies blocks seen (n ∷ ms) m =
     ap (λ x. replies_to (pos 0) 0 blocks seen n ++ x) (more_replies blocks (is_version n || seen) ms m)
     ∙ sym (append_assoc (replies_to (pos 0) 0 blocks seen n) (replies (pos 0) 0 blocks (is_version n || seen) ms)
     (replies_to (pos 0) 0 blocks (seen_after (is_version n || seen) ms) m))
 
-seen_greeted : (t : Trail) → seen_after false (messages_asked t) ≡ is_greeted t
-unfolding seen_after
+pub seen_greeted : (t : Trail) → seen_after false (messages_asked t) ≡ is_greeted t
 seen_greeted [] = refl
 seen_greeted (Called ∷ t) = refl
 seen_greeted (Said m ∷ t) = seen_greeted t

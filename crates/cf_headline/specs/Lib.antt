@@ -1,3 +1,3 @@
 pub mod Headline
 pub mod Grounds
-pub use Rattle.cf_headline.specs.Headline.{Headline, IsLongest, IsServing}
+pub use Rattle.cf_headline.specs.Headline.{IsLongest, IsServing}

@@ -3,4 +3,4 @@
 
 mod laws;
 
-pub use laws::{the_headline, what_is_sent_is_messages};
+pub use laws::{a_run_that_the_headline_speaks_of, the_headline, what_is_sent_is_messages};
