@@ -23,7 +23,8 @@ use Rattle.cf_headline.specs.Headline.{bytes_from, sends_to, WasSent}
 use Rattle.cf_headline.proofs.Again.{msg_of, messages_in, AreRead, messages_append, read_left, read_right, bytes_both, spelled_again}
 
 -- what is said of a peer in two ways, by whether an entry names it
-pub at_both : {A : Type 0} (P : A → Part → Type 0) (b : Bool) (one two : A) (here other : Part) → (b ≡ true → P one here)
+pub at_both : {A : Type 0} (P : A → Part → Type 0) (b : Bool) (one two : A) (here other : Part)
+    → (b ≡ true → P one here)
     → (b ≡ false → P two other) → P (if b then one else two) (if b then here else other)
 at_both P true one two here other on off = on refl
 at_both P false one two here other on off = off refl
@@ -36,7 +37,8 @@ at_one P false one two on off = off
 
 pub from_bytes : (log : Log) (p : ℕ) → AreBytes log → IsBytes (bytes_from log p)
 from_bytes [] p are = λ i. omega arith
-from_bytes (Dialled q name ∷ log) p are = at_one IsBytes (q.0 == p) [] (bytes_from log p) (λ i. omega arith) (from_bytes log p are)
+from_bytes (Dialled q name ∷ log) p are =
+    at_one IsBytes (q.0 == p) [] (bytes_from log p) (λ i. omega arith) (from_bytes log p are)
 from_bytes (NotDialled q name ∷ log) p are = from_bytes log p are
 from_bytes (Sent q bytes ∷ log) p are = from_bytes log p are
 from_bytes (SendFailed q ∷ log) p are = from_bytes log p are
@@ -70,7 +72,8 @@ hears_spelled [] t read is = is
 hears_spelled (f ∷ fs) t read is = hears_spelled fs (item_of f ∷ t) read.1 (item_spelled f t read.0 is)
 
 item_asked : (f : Frame) (t : Trail) → messages_asked (item_of f ∷ t) ≡ messages_asked t
-item_asked f t = elim (message_of f) as (λ r. messages_asked (item_of_read r ∷ t) ≡ messages_asked t) [ Ok m ↦ refl | Err e ↦ refl ]
+item_asked f t =
+    elim (message_of f) as (λ r. messages_asked (item_of_read r ∷ t) ≡ messages_asked t) [ Ok m ↦ refl | Err e ↦ refl ]
 
 hears_asked : (fs : List Frame) (t : Trail) → messages_asked (hears fs t) ≡ messages_asked t
 hears_asked [] t = refl
@@ -115,14 +118,19 @@ piece_on frames rest piece part s waits read none said whole =
     ∙ ap (λ o. record { trail = hears_fault o (hears s.frames part.trail); waits = s.rest }) none in
     subst (IsReadAs (with_frames frames s)) (sym same) (record {
       waits = refl;
-      said = hears_said s.frames part.trail ∙ ap (λ x. x ++ messages_in s.frames) said ∙ sym (messages_append frames s.frames);
-      whole = λ all. hears_spelled s.frames part.trail (read_right frames s.frames all) (whole (read_left frames s.frames all));
+      said =
+          hears_said s.frames part.trail ∙ ap (λ x. x ++ messages_in s.frames) said
+          ∙ sym (messages_append frames s.frames);
+      whole =
+          λ all. hears_spelled s.frames part.trail (read_right frames s.frames all)
+          (whole (read_left frames s.frames all));
     })
 
 piece_reads : (bytes piece : List ℕ) (part : Part) → Reads bytes part → Reads (bytes ++ piece) (heard_part piece part)
 piece_reads bytes piece part before =
     let r : StreamRead = read_stream bytes in
-    subst (λ (x : StreamRead). x.fault ≡ None → IsReadAs x (heard_part piece part)) (sym (stream_joined bytes piece)) (by_fault r r.fault refl before)
+    subst (λ (x : StreamRead). x.fault ≡ None → IsReadAs x (heard_part piece part)) (sym (stream_joined bytes piece))
+    (by_fault r r.fault refl before)
   where
     by_fault : (r : StreamRead) (o : Option FrameFault) → r.fault ≡ o → (r.fault ≡ None → IsReadAs r part)
         → (continued o r piece).fault ≡ None → IsReadAs (continued o r piece) (heard_part piece part)
@@ -132,19 +140,24 @@ piece_reads bytes piece part before =
     by_fault r (Some fault) e before none = absurd (let clash = sym e ∙ none in cc)
 
 -- a loss changes nothing of it
-lost : (bytes : List ℕ) (part : Part) (w : Part → Part) → Reads bytes part → ((r : StreamRead) → IsReadAs r part → IsReadAs r (w part)) → Reads bytes (w part)
+lost : (bytes : List ℕ) (part : Part) (w : Part → Part) → Reads bytes part
+    → ((r : StreamRead) → IsReadAs r part → IsReadAs r (w part)) → Reads bytes (w part)
 lost bytes part w before on none = on (read_stream bytes) (before none)
 
-pub reads : (log : Log) (p : ℕ) → (read_stream (bytes_from log p)).fault ≡ None → IsReadAs (read_stream (bytes_from log p)) (part_of log p)
+pub reads : (log : Log) (p : ℕ) → (read_stream (bytes_from log p)).fault ≡ None
+    → IsReadAs (read_stream (bytes_from log p)) (part_of log p)
 reads [] p = reads_start (part_of [] p) (record { waits = refl; said = refl; whole = λ all. tt })
 reads (Dialled q name ∷ log) p =
     at_both Reads (q.0 == p) [] (bytes_from log p) (called_part (part_of log p)) (part_of log p)
-    (λ is. reads_start (called_part (part_of log p)) (record { waits = refl; said = refl; whole = λ all. tt })) (λ off. reads log p)
+    (λ is. reads_start (called_part (part_of log p)) (record { waits = refl; said = refl; whole = λ all. tt }))
+    (λ off. reads log p)
 reads (NotDialled q name ∷ log) p =
     at_either (Reads (bytes_from log p)) (q.0 == p) (with_item (Lost mark.NotDialled) (part_of log p)) (part_of log p)
-    (λ is none. let before = reads log p none in record { waits = before.waits; said = before.said; whole = before.whole }) (λ off. reads log p)
+    (λ is none. let before = reads log p none in
+    record { waits = before.waits; said = before.said; whole = before.whole }) (λ off. reads log p)
 reads (Sent q bytes ∷ log) p =
-    at_either (Reads (bytes_from log p)) (q.0 == p) (record (part_of log p) { trail = asks (spelled bytes) (trail log p) }) (part_of log p)
+    at_either (Reads (bytes_from log p)) (q.0 == p)
+    (record (part_of log p) { trail = asks (spelled bytes) (trail log p) }) (part_of log p)
     (λ is none. let before = reads log p none in record {
       waits = before.waits;
       said = asks_said (spelled bytes) (trail log p) ∙ before.said;
@@ -152,17 +165,22 @@ reads (Sent q bytes ∷ log) p =
     }) (λ off. reads log p)
 reads (SendFailed q ∷ log) p =
     at_either (Reads (bytes_from log p)) (q.0 == p) (with_item (Lost mark.SendFailed) (part_of log p)) (part_of log p)
-    (λ is none. let before = reads log p none in record { waits = before.waits; said = before.said; whole = before.whole }) (λ off. reads log p)
+    (λ is none. let before = reads log p none in
+    record { waits = before.waits; said = before.said; whole = before.whole }) (λ off. reads log p)
 reads (Closed q ∷ log) p =
     at_either (Reads (bytes_from log p)) (q.0 == p) (with_item (Lost mark.Closed) (part_of log p)) (part_of log p)
-    (λ is none. let before = reads log p none in record { waits = before.waits; said = before.said; whole = before.whole }) (λ off. reads log p)
+    (λ is none. let before = reads log p none in
+    record { waits = before.waits; said = before.said; whole = before.whole }) (λ off. reads log p)
 reads (Took (Got q piece) ∷ log) p =
-    at_both Reads (q.0 == p) (bytes_from log p ++ piece) (bytes_from log p) (heard_part piece (part_of log p)) (part_of log p)
+    at_both Reads (q.0 == p) (bytes_from log p ++ piece) (bytes_from log p) (heard_part piece (part_of log p))
+    (part_of log p)
     (λ is. piece_reads (bytes_from log p) piece (part_of log p) (reads log p)) (λ off. reads log p)
 reads (Took (Gone q) ∷ log) p =
     at_either (Reads (bytes_from log p)) (q.0 == p) (with_item (Lost mark.Gone) (part_of log p)) (part_of log p)
-    (λ is none. let before = reads log p none in record { waits = before.waits; said = before.said; whole = before.whole }) (λ off. reads log p)
-reads (Took (Tick s) ∷ log) p = λ none. let before = reads log p none in record { waits = before.waits; said = before.said; whole = before.whole }
+    (λ is none. let before = reads log p none in
+    record { waits = before.waits; said = before.said; whole = before.whole }) (λ off. reads log p)
+reads (Took (Tick s) ∷ log) p =
+    λ none. let before = reads log p none in record { waits = before.waits; said = before.said; whole = before.whole }
 reads (Took Ended ∷ log) p = reads log p
 
 -- ---- what was sent is what it was asked
@@ -172,7 +190,8 @@ abbrev sent_messages : List (List ℕ) → List Msg
 sent_messages [] = []
 sent_messages (bytes ∷ more) = option_to_list (spelled bytes) ++ sent_messages more
 
-sent_append : (xs : List (List ℕ)) (bytes : List ℕ) → sent_messages (xs ++ bytes ∷ []) ≡ sent_messages xs ++ option_to_list (spelled bytes)
+sent_append : (xs : List (List ℕ)) (bytes : List ℕ) → sent_messages (xs ++ bytes ∷ []) ≡ sent_messages xs
+    ++ option_to_list (spelled bytes)
 sent_append [] bytes = append-nil (option_to_list (spelled bytes))
 sent_append (x ∷ xs) bytes =
     ap (λ l. option_to_list (spelled x) ++ l) (sent_append xs bytes)
@@ -188,7 +207,8 @@ IsAskedAs sends part = messages_asked part.trail ≡ sent_messages sends
 asked_sent : (log : Log) (p : ℕ) → messages_asked (trail log p) ≡ sent_messages (sends_to log p)
 asked_sent [] p = refl
 asked_sent (Dialled q name ∷ log) p =
-    at_both IsAskedAs (q.0 == p) [] (sends_to log p) (called_part (part_of log p)) (part_of log p) (λ is. refl) (λ off. asked_sent log p)
+    at_both IsAskedAs (q.0 == p) [] (sends_to log p) (called_part (part_of log p)) (part_of log p) (λ is. refl)
+    (λ off. asked_sent log p)
 asked_sent (NotDialled q name ∷ log) p =
     at_either (IsAskedAs (sends_to log p)) (q.0 == p) (with_item (Lost mark.NotDialled) (part_of log p)) (part_of log p)
     (λ is. asked_sent log p) (λ off. asked_sent log p)
@@ -218,7 +238,8 @@ asked_sent (Took Ended ∷ log) p = asked_sent log p
 sent_again : (ms : List Msg) → AllByRecursion IsSendable ms → sent_messages (map bytes_of ms) ≡ ms
 sent_again [] fit = refl
 sent_again (m ∷ ms) fit =
-    ap (λ o. option_to_list o ++ sent_messages (map bytes_of ms)) (spelled_again m fit.0) ∙ ap (λ x. m ∷ x) (sent_again ms fit.1)
+    ap (λ o. option_to_list o ++ sent_messages (map bytes_of ms)) (spelled_again m fit.0)
+    ∙ ap (λ x. m ∷ x) (sent_again ms fit.1)
 
 -- messages that were sent are those that it was asked
 pub asked_is : (log : Log) (p : ℕ) (ms : List Msg) → WasSent ms log p → messages_asked (trail log p) ≡ ms

@@ -31,7 +31,8 @@ one_read : (frames : List Frame) (rest : List ℕ) (m : Msg) → one_message fra
 one_read [] rest m e = absurd (let clash = e in cc)
 one_read (f ∷ []) [] m e = record { frame = f; one = refl; none = refl; reads = by_read (message_of f) refl } where
   by_read : (r : Result Msg Malformed) → message_of f ≡ r → message_of f ≡ Ok m
-  by_read (Ok n) is = (let same : Some n ≡ Some m = sym (ap message_in is) ∙ e in let n_is : n ≡ m = cc in is ∙ ap (λ x. Ok x) n_is)
+  by_read (Ok n) is =
+      (let same : Some n ≡ Some m = sym (ap message_in is) ∙ e in let n_is : n ≡ m = cc in is ∙ ap (λ x. Ok x) n_is)
   by_read (Err x) is = absurd (let clash : None ≡ Some m = sym (ap message_in is) ∙ e in cc)
 one_read (f ∷ []) (b ∷ rest) m e = absurd (let clash = e in cc)
 one_read (f ∷ g ∷ fs) rest m e = absurd (let clash = e in cc)
@@ -53,7 +54,8 @@ spelled_one bytes m are e =
     let w = written alone.frame m frame (subst IsBytes is are) alone.reads in
     record { fits = w.fits; is = sym w.is ∙ sym is }
 
-fit_last : (ms : List Msg) (m : Msg) → AllByRecursion IsSendable ms → IsSendable m → AllByRecursion IsSendable (ms ++ m ∷ [])
+fit_last : (ms : List Msg) (m : Msg) → AllByRecursion IsSendable ms → IsSendable m
+    → AllByRecursion IsSendable (ms ++ m ∷ [])
 fit_last [] m all one = (one, tt)
 fit_last (n ∷ ms) m all one = (all.0, fit_last ms m all.1 one)
 
@@ -65,13 +67,21 @@ map_last (n ∷ ms) m = ap (λ x. bytes_of n ∷ x) (map_last ms m)
 abbrev AreMessages : List (List ℕ) → Type 0
 AreMessages sends = (ms : List Msg) × (AllByRecursion IsSendable ms × (map bytes_of ms ≡ sends))
 
-one_more : (sends : List (List ℕ)) (bytes : List ℕ) (m : Msg) → IsOne bytes m → AreMessages sends → AreMessages (sends ++ bytes ∷ [])
-one_more sends bytes m one are =
-    (are.0 ++ m ∷ [], (fit_last are.0 m are.1.0 one.fits, map_last are.0 m ∙ ap (λ l. map bytes_of are.0 ++ l ∷ []) one.is ∙ ap (λ l. l ++ bytes ∷ []) are.1.1))
+one_more : (sends : List (List ℕ)) (bytes : List ℕ) (m : Msg) → IsOne bytes m → AreMessages sends
+    → AreMessages (sends ++ bytes ∷ [])
+one_more sends bytes m one are = (
+  are.0 ++ m ∷ [],
+  (
+    fit_last are.0 m are.1.0 one.fits,
+    map_last are.0 m
+        ∙ ap (λ l. map bytes_of are.0 ++ l ∷ []) one.is ∙ ap (λ l. l ++ bytes ∷ []) are.1.1,
+  ),
+)
 
 pub sent_messages : (log : Log) (p : ℕ) → WereBytes log → Rightly log → (ms : List Msg) × WasSent ms log p
 sent_messages [] p were right = ([], (tt, refl))
-sent_messages (Dialled q name ∷ log) p were right = at_one AreMessages (q.0 == p) [] (sends_to log p) ([], (tt, refl)) (sent_messages log p were right)
+sent_messages (Dialled q name ∷ log) p were right =
+    at_one AreMessages (q.0 == p) [] (sends_to log p) ([], (tt, refl)) (sent_messages log p were right)
 sent_messages (NotDialled q name ∷ log) p were right = sent_messages log p were right
 sent_messages (Sent q bytes ∷ log) p were right =
     let before = sent_messages log p were.1 right.1 in

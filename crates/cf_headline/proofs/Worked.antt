@@ -55,7 +55,8 @@ none_came = record { ms = []; fit = tt; is = refl; known = tt }
 
 flat_last : (ms : List Msg) (m : Msg) → flat_map bytes_of ms ++ bytes_of m ≡ flat_map bytes_of (ms ++ m ∷ [])
 flat_last [] m = sym (append-nil (bytes_of m))
-flat_last (n ∷ ms) m = append_assoc (bytes_of n) (flat_map bytes_of ms) (bytes_of m) ∙ ap (λ l. bytes_of n ++ l) (flat_last ms m)
+flat_last (n ∷ ms) m =
+    append_assoc (bytes_of n) (flat_map bytes_of ms) (bytes_of m) ∙ ap (λ l. bytes_of n ++ l) (flat_last ms m)
 
 all_last : (P : Msg → Type 0) (ms : List Msg) (m : Msg) → AllByRecursion P ms → P m → AllByRecursion P (ms ++ m ∷ [])
 all_last P [] m all one = (one, tt)
@@ -72,19 +73,23 @@ one_came bytes m fits knows c = record {
 abbrev Comes : Log → Type 0
 Comes log = (q : ℕ) → Came (bytes_from log q)
 
-comes_got : (p : PeerNo) (m : Msg) (log : Log) → IsSendable m → Knows m → Comes log → Comes (Took (Got p (bytes_of m)) ∷ log)
+comes_got : (p : PeerNo) (m : Msg) (log : Log) → IsSendable m → Knows m → Comes log
+    → Comes (Took (Got p (bytes_of m)) ∷ log)
 comes_got p m log fits knows before q =
-    at_one Came (p.0 == q) (bytes_from log q ++ bytes_of m) (bytes_from log q) (one_came (bytes_from log q) m fits knows (before q)) (before q)
+    at_one Came (p.0 == q) (bytes_from log q ++ bytes_of m) (bytes_from log q)
+    (one_came (bytes_from log q) m fits knows (before q)) (before q)
 
 comes_dialled : (p : PeerNo) (name : List ℕ) (log : Log) → Comes log → Comes (Dialled p name ∷ log)
 comes_dialled p name log before q = at_one Came (p.0 == q) [] (bytes_from log q) none_came (before q)
 
 -- ---- what stands in it, or what it begins with, is among them
 
-read_frames : (frames : List Frame) (rest : List ℕ) → AllByRecursion IsFrame frames → read_stream (flat_map spelling frames ++ rest) ≡ with_frames frames (read_stream rest)
+read_frames : (frames : List Frame) (rest : List ℕ) → AllByRecursion IsFrame frames
+    → read_stream (flat_map spelling frames ++ rest) ≡ with_frames frames (read_stream rest)
 read_frames [] rest each = refl
 read_frames (f ∷ fs) rest each =
-    ap read_stream (append_assoc (spelling f) (flat_map spelling fs) rest) ∙ stream_of_spelling_and f (flat_map spelling fs ++ rest) each.0
+    ap read_stream (append_assoc (spelling f) (flat_map spelling fs) rest)
+    ∙ stream_of_spelling_and f (flat_map spelling fs ++ rest) each.0
     ∙ ap (with_frame f) (read_frames fs rest each.1)
 
 -- the messages of a stream
@@ -93,7 +98,8 @@ messages_read r = messages_in r.frames
 
 came_read : (bytes : List ℕ) (c : Came bytes) → messages_read (read_stream bytes) ≡ c.ms
 came_read bytes c =
-    ap (λ l. messages_read (read_stream l)) (c.is ∙ sym (append-nil (flat_map bytes_of c.ms))) ∙ ap messages_read (read_messages c.ms [] c.fit)
+    ap (λ l. messages_read (read_stream l)) (c.is ∙ sym (append-nil (flat_map bytes_of c.ms)))
+    ∙ ap messages_read (read_messages c.ms [] c.fit)
     ∙ ap (λ r. messages_read (with_frames (map frame_of c.ms) r)) stream_empty
     ∙ ap messages_in (append-nil (map frame_of c.ms)) ∙ frames_say c.ms c.fit
 
@@ -101,11 +107,14 @@ stands_among : (bytes : List ℕ) (c : Came bytes) (m : Msg) → StandsIn m byte
 stands_among bytes c m s =
     let more : StreamRead = read_stream s.rest in
     let read : messages_read (read_stream bytes) ≡ messages_in s.frames ++ (m ∷ messages_in more.frames) =
-    ap (λ l. messages_read (read_stream l)) s.joined ∙ ap messages_read (read_frames s.frames (bytes_of m ++ s.rest) s.each)
-    ∙ ap (λ r. messages_read (with_frames s.frames r)) (stream_of_spelling_and (frame_of m) s.rest (frame_fits m s.fits.spelled s.fits.short))
+    ap (λ l. messages_read (read_stream l)) s.joined
+    ∙ ap messages_read (read_frames s.frames (bytes_of m ++ s.rest) s.each)
+    ∙ ap (λ r. messages_read (with_frames s.frames r))
+    (stream_of_spelling_and (frame_of m) s.rest (frame_fits m s.fits.spelled s.fits.short))
     ∙ messages_append s.frames (frame_of m ∷ more.frames)
     ∙ ap (λ r. messages_in s.frames ++ (msg_of r ++ messages_in more.frames)) (again m s.fits.spelled) in
-    subst (IsIn m) (sym read ∙ came_read bytes c) (in_right m (messages_in s.frames) (m ∷ messages_in more.frames) (inl refl))
+    subst (IsIn m) (sym read ∙ came_read bytes c)
+    (in_right m (messages_in s.frames) (m ∷ messages_in more.frames) (inl refl))
 
 says_among : (bytes : List ℕ) (c : Came bytes) (ms : List Msg) → Says ms bytes → (m : Msg) → IsIn m ms → IsIn m c.ms
 says_among bytes c ms s m among =
@@ -128,7 +137,8 @@ carried_known : (log : Log) (bytes : List ℕ) → AllCome log → IsCarried log
 carried_known [] bytes all carried = absurd carried
 carried_known (e ∷ log) bytes all (inl now) =
     let c = all.0 now.0 in
-    (known_of c.ms now.1.0 c.known (stands_among (bytes_from (e ∷ log) now.0) c now.1.0 now.1.1.0)).strings bytes now.1.1.1
+    (known_of c.ms now.1.0 c.known (stands_among (bytes_from (e ∷ log) now.0) c now.1.0 now.1.1.0)).strings bytes
+    now.1.1.1
 carried_known (e ∷ log) bytes all (inr before) = carried_known log bytes all.1 before
 
 -- ---- the messages of this run
@@ -233,10 +243,11 @@ strings_apart = record {
 
 shown_in : (ms : List Msg) (h : Header) → IsShown (lists_of ms) h → (m : Msg) × (IsIn m ms × IsShown (lists_in m) h)
 shown_in [] h shown = absurd shown
-shown_in (n ∷ ms) h shown = elim (shown_either (lists_in n) (lists_of ms) h (subst (λ ls. IsShown ls h) (one_list n ms) shown)) [
-  | inl now ↦ (n, (inl refl, now))
-  | inr later ↦ (let w = shown_in ms h later in (w.0, (inr w.1.0, w.1.1)))
-]
+shown_in (n ∷ ms) h shown =
+    elim (shown_either (lists_in n) (lists_of ms) h (subst (λ ls. IsShown ls h) (one_list n ms) shown)) [
+      | inl now ↦ (n, (inl refl, now))
+      | inr later ↦ (let w = shown_in ms h later in (w.0, (inr w.1.0, w.1.1)))
+    ]
 
 pub longest : IsLongest cleared_run chain_of_one
 longest q ms other there says shows long =
@@ -256,7 +267,9 @@ longest q ms other there says shows long =
 
 verack_some : bytes_of Verack ≢ []
 verack_some e =
-    let read = sym (stream_of_spelling (frame_of Verack) (frame_fits Verack verack_sendable.spelled verack_sendable.short)) ∙ ap read_stream e ∙ stream_empty in
+    let read =
+    sym (stream_of_spelling (frame_of Verack) (frame_fits Verack verack_sendable.spelled verack_sendable.short))
+    ∙ ap read_stream e ∙ stream_empty in
     let clash = ap (λ (r : StreamRead). length r.frames) read in
     absurd (omega (arith, clash))
 
@@ -265,8 +278,10 @@ later_seconds [] older = omega arith
 later_seconds (Took (Tick s) ∷ later) older = (let before = later_seconds later older in omega (arith, before))
 later_seconds (e ∷ later) older = later_seconds later older
 
-moment : (log : Log) (said asked : List Msg) → AllByRecursion IsSendable said → AllByRecursion IsSendable asked → bytes_from log 1 ≡ flat_map bytes_of said
-    → map bytes_of asked ≡ sends_to log 1 → seconds_in log ≡ 0 → IsPrefixOf (plain said) (machine chain_of_one asked) → IsHonestAt log 1 chain_of_one
+moment : (log : Log) (said asked : List Msg) → AllByRecursion IsSendable said → AllByRecursion IsSendable asked
+    → bytes_from log 1 ≡ flat_map bytes_of said
+    → map bytes_of asked ≡ sends_to log 1 → seconds_in log ≡ 0 → IsPrefixOf (plain said) (machine chain_of_one asked)
+    → IsHonestAt log 1 chain_of_one
 moment log said asked fit_said fit_asked came sent still follows = record {
   said = said;
   asked = asked;
@@ -281,7 +296,8 @@ moment log said asked fit_said fit_asked came sent still follows = record {
   sent = (fit_asked, sent);
   follows = follows;
   in_time = λ later older before joined late was.
-      (let few = later_seconds later older in let none : seconds_in (later ++ older) ≡ 0 = ap seconds_in joined ∙ still in absurd (omega (arith, few, none, late)));
+      (let few = later_seconds later older in let none : seconds_in (later ++ older) ≡ 0 = ap seconds_in joined
+      ∙ still in absurd (omega (arith, few, none, late)));
 }
 
 abbrev said_10 : List Msg
@@ -357,7 +373,8 @@ came_18 : bytes_from log_18 1 ≡ flat_map bytes_of said_18
 came_18 = ap (λ l. l ++ bytes_of its_filter) came_16 ∙ flat_last said_16 its_filter
 
 -- before it says anything
-early : (log : Log) → bytes_from log 1 ≡ [] → map bytes_of asked_2 ≡ sends_to log 1 → seconds_in log ≡ 0 → IsHonestAt log 1 chain_of_one
+early : (log : Log) → bytes_from log 1 ≡ [] → map bytes_of asked_2 ≡ sends_to log 1 → seconds_in log ≡ 0
+    → IsHonestAt log 1 chain_of_one
 early log came sent still = moment log [] asked_2 tt fits_2 came sent still says_2.follows
 
 honest_9 : WasHonest log_9 1 chain_of_one
@@ -443,9 +460,11 @@ Greets log = (q : ℕ) → is_connected (trail log q) ≡ true → is_greeted (t
 greets_got : (p : PeerNo) (piece : List ℕ) (log : Log) → Greets log → Greets (Took (Got p piece) ∷ log)
 greets_got p piece log before q =
     at_either IsGreetedPart (p.0 == q) (heard_part piece (part_of log q)) (part_of log q)
-    (λ is on. let same = unmoved_piece piece (part_of log q) in same.greeted ∙ before q (sym same.on ∙ on)) (λ off. before q)
+    (λ is on. let same = unmoved_piece piece (part_of log q) in same.greeted ∙ before q (sym same.on ∙ on))
+    (λ off. before q)
 
-asks_greeted : (o : Option Msg) (t : Trail) → (is_connected t ≡ true → is_greeted t ≡ true) → is_connected (asks o t) ≡ true → is_greeted (asks o t) ≡ true
+asks_greeted : (o : Option Msg) (t : Trail) → (is_connected t ≡ true → is_greeted t ≡ true)
+    → is_connected (asks o t) ≡ true → is_greeted (asks o t) ≡ true
 asks_greeted None t before on = before on
 asks_greeted (Some m) t before on = ap (λ b. is_version m || b) (before on) ∙ or_true (is_version m) where
   or_true : (b : Bool) → (b || true) ≡ true
@@ -454,16 +473,22 @@ asks_greeted (Some m) t before on = ap (λ b. is_version m || b) (before on) ∙
 
 greets_sent : (p : PeerNo) (bytes : List ℕ) (log : Log) → Greets log → Greets (Sent p bytes ∷ log)
 greets_sent p bytes log before q =
-    at_either IsGreetedPart (p.0 == q) (record (part_of log q) { trail = asks (spelled bytes) (trail log q) }) (part_of log q)
+    at_either IsGreetedPart (p.0 == q) (record (part_of log q) { trail = asks (spelled bytes) (trail log q) })
+    (part_of log q)
     (λ is. asks_greeted (spelled bytes) (trail log q) (before q)) (λ off. before q)
 
 -- who is dialled is sent a version at once
-greets_dialled : (p : PeerNo) (name : List ℕ) (m : Msg) (log : Log) → IsSendable m → is_version m ≡ true → Greets log → Greets (Sent p (bytes_of m) ∷ Dialled p name ∷ log)
+greets_dialled : (p : PeerNo) (name : List ℕ) (m : Msg) (log : Log) → IsSendable m → is_version m ≡ true → Greets log
+    → Greets (Sent p (bytes_of m) ∷ Dialled p name ∷ log)
 greets_dialled p name m log fits first before q =
-    at_either IsGreetedPart (p.0 == q) (record (part_of (Dialled p name ∷ log) q) { trail = asks (spelled (bytes_of m)) (trail (Dialled p name ∷ log) q) }) (part_of (Dialled p name ∷ log) q)
-    (λ is. subst (λ o. is_connected (asks o (trail (Dialled p name ∷ log) q)) ≡ true → is_greeted (asks o (trail (Dialled p name ∷ log) q)) ≡ true) (sym (spelled_again m fits))
+    at_either IsGreetedPart (p.0 == q)
+    (record (part_of (Dialled p name ∷ log) q)
+    { trail = asks (spelled (bytes_of m)) (trail (Dialled p name ∷ log) q) }) (part_of (Dialled p name ∷ log) q)
+    (λ is. subst (λ o. is_connected (asks o (trail (Dialled p name ∷ log) q)) ≡ true
+    → is_greeted (asks o (trail (Dialled p name ∷ log) q)) ≡ true) (sym (spelled_again m fits))
     (λ on. ap (λ b. b || is_greeted (trail (Dialled p name ∷ log) q)) first))
-    (λ off. at_either IsGreetedPart (p.0 == q) (called_part (part_of log q)) (part_of log q) (λ is on. absurd (both_ways (p.0 == q) off is)) (λ other. before q))
+    (λ off. at_either IsGreetedPart (p.0 == q) (called_part (part_of log q)) (part_of log q)
+    (λ is on. absurd (both_ways (p.0 == q) off is)) (λ other. before q))
 
 greets_0 : Greets []
 greets_0 q on = absurd (false≢true on)
@@ -483,16 +508,21 @@ greets_9 : Greets log_9
 greets_9 = greets_got liar (bytes_of false_headers) log_8 greets_8
 
 greets_11 : Greets log_11
-greets_11 = greets_sent honest_peer (bytes_of Verack) log_10 (greets_got honest_peer (bytes_of its_version) log_9 greets_9)
+greets_11 =
+    greets_sent honest_peer (bytes_of Verack) log_10 (greets_got honest_peer (bytes_of its_version) log_9 greets_9)
 
 greets_13 : Greets log_13
-greets_13 = greets_sent honest_peer (bytes_of question) log_12 (greets_got honest_peer (bytes_of Verack) log_11 greets_11)
+greets_13 =
+    greets_sent honest_peer (bytes_of question) log_12 (greets_got honest_peer (bytes_of Verack) log_11 greets_11)
 
 greets_15 : Greets log_15
-greets_15 = greets_sent honest_peer (bytes_of ask_claims) log_14 (greets_got honest_peer (bytes_of its_headers) log_13 greets_13)
+greets_15 =
+    greets_sent honest_peer (bytes_of ask_claims) log_14
+    (greets_got honest_peer (bytes_of its_headers) log_13 greets_13)
 
 greets_17 : Greets log_17
-greets_17 = greets_sent honest_peer (bytes_of ask_filter) log_16 (greets_got honest_peer (bytes_of its_claims) log_15 greets_15)
+greets_17 =
+    greets_sent honest_peer (bytes_of ask_filter) log_16 (greets_got honest_peer (bytes_of its_claims) log_15 greets_15)
 
 pub were_greeted : WereGreeted cleared_run
 were_greeted = (greets_17, (greets_15, (greets_13, (greets_11, (greets_9, (greets_8, (greets_6, (greets_4, tt))))))))
@@ -500,4 +530,5 @@ were_greeted = (greets_17, (greets_15, (greets_13, (greets_11, (greets_9, (greet
 -- ---- what was written
 
 pub has_written : HasWritten other_watch (history_text [] 1 only_hash.0) cleared_run
-has_written = record { height = 1; hash = only_hash; entries = []; asked = cleared_asked; quiet = cleared_quiet; written = refl }
+has_written =
+    record { height = 1; hash = only_hash; entries = []; asked = cleared_asked; quiet = cleared_quiet; written = refl }

@@ -1,4 +1,5 @@
--- statement: the headline, by what is written alone: what an honest peer is and what it is promised. Nothing here knows how bytes are read, what is open, or what a client keeps.
+-- statement: the headline, by what is written alone: what an honest peer is and what it is promised. Nothing here knows
+-- how bytes are read, what is open, or what a client keeps.
 use Rattle.std.specs.Prelude.{◌≡◌, ◌≢◌, ◌⊎◌, ℕ, ◌+◌, ◌≤◌, ◌==◌, pos, Bool, true, false, not, ◌&&◌, ◌||◌, if◌then◌else◌, List, [], ◌∷◌, ◌++◌, map, length}
 use Rattle.std.specs.List.{flat_map, AllByRecursion}
 use Rattle.cf_block.specs.declared.header.Header.{Header}
@@ -94,14 +95,16 @@ WasSent ms log p = AllByRecursion IsSendable ms × (map bytes_of ms ≡ sends_to
 abbrev pub machine : List Block → List Msg → List Msg
 machine blocks ms = replies (pos 0) 0 blocks false ms
 
--- what p has said, without chatter, is a beginning of the machine's answers to what it was sent; and all of them to what it was sent 60 seconds ago or more
+-- what p has said, without chatter, is a beginning of the machine's answers to what it was sent; and all of them to
+-- what it was sent 60 seconds ago or more
 pub record IsHonestAt (log : Log) (p : ℕ) (blocks : List Block) : Type 0 where
   pub said : List Msg
   pub asked : List Msg
   pub says : SaysAll said (bytes_from log p)
   pub sent : WasSent asked log p
   pub follows : IsPrefixOf (plain said) (machine blocks asked)
-  pub in_time : (later older : Log) (before : List Msg) → later ++ older ≡ log → 60 ≤ seconds_in later → WasSent before older p
+  pub in_time : (later older : Log) (before : List Msg) → later ++ older ≡ log → 60 ≤ seconds_in later
+      → WasSent before older p
       → length (machine blocks before) ≤ length (plain said)
 
 -- so it was at every moment, and p never went
@@ -135,7 +138,8 @@ lists_of (_ ∷ ms) = lists_of ms
 -- nobody who is still there has shown another chain that is at least as long
 abbrev pub IsLongest : Log → List Block → Type 0
 IsLongest log blocks =
-    (q : ℕ) (ms : List Msg) (other : Chain) → is_there log q ≡ true → Says ms (bytes_from log q) → Shows (lists_of ms) other
+    (q : ℕ) (ms : List Msg) (other : Chain) → is_there log q ≡ true → Says ms (bytes_from log q)
+    → Shows (lists_of ms) other
     → length blocks ≤ length other → other ≡ headers_of blocks
 
 -- ---- what is promised
@@ -146,5 +150,6 @@ scan_lines blocks scripts = history_text (scan_of blocks scripts) (length blocks
 
 -- The headline. done: the run has answered Done; text: what it has written.
 pub record Headline (done : Type 0) (scripts : List (List ℕ)) (text : List ℕ) (log : Log) : Type 0 where
-  pub exact : (p : ℕ) (blocks : List Block) → IsServing log p blocks → IsLongest log blocks → done → text ≡ scan_lines blocks scripts
+  pub exact : (p : ℕ) (blocks : List Block) → IsServing log p blocks → IsLongest log blocks → done
+      → text ≡ scan_lines blocks scripts
   pub never : (p : ℕ) (blocks : List Block) → IsServing log p blocks → IsNeverClosed log p
