@@ -37,4 +37,5 @@ orderly_greeted (NotDialled p name ∷ log) was = orderly_greeted log was
 orderly_greeted (Sent p bytes ∷ log) was = orderly_greeted log was
 orderly_greeted (SendFailed p ∷ log) was = orderly_greeted log was.1
 orderly_greeted (Closed p ∷ log) was = orderly_greeted log was.1
-orderly_greeted (Took d ∷ log) was = ((λ p on. greeted_by (trail log p) (was.0.answered p on).greeted), orderly_greeted log was.1)
+orderly_greeted (Took d ∷ log) was =
+    ((λ p on. greeted_by (trail log p) (was.0.answered p on).greeted), orderly_greeted log was.1)

@@ -3,4 +3,4 @@
 
 mod laws;
 
-pub use laws::the_headline_of_a_run;
+pub use laws::{the_headline_of_a_run, the_headline_over_a_watch_file};
