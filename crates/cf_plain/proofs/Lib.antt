@@ -1,0 +1,4 @@
+pub mod Walking
+pub mod Replaying
+pub mod Syncing
+pub mod Watching
