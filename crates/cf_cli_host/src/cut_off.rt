@@ -27,8 +27,8 @@ fn read_at(file: &mut File, at: u64, into: &mut [u8]) -> io::Result<()> {
 
 // How many bytes of a block follow the first eight of a record, where these are such.
 fn text_length(head: &[u8; 8]) -> Option<u64> {
-    let [a, b, c, d, length @ ..] = *head;
-    let length = u64::from(u32::from_le_bytes(length));
+    let [a, b, c, d, e, f, g, h] = *head;
+    let length = u64::from(u32::from_le_bytes([e, f, g, h]));
     if [a, b, c, d] == MAGIC && (1..=MOST_TEXT).contains(&length) {
         Some(length)
     } else {

@@ -22,8 +22,8 @@ pub returns-in-Ok-clause-does : goal.returns-in-Ok-clause-does
 returns-in-Ok-clause-does g c =
     does_so _ c.in-Ok.command c.perform.result _ c.args.moment c.args.nonce _ _ c.in-Ok.ensures.exact (to_z-of_z {w = w64} {z = c.args.moment} (search rules)) c.perform.ensures.does
 
-pub returns-in-Err-NoMemory-clause-does : goal.returns-in-Err-NoMemory-clause-does
-returns-in-Err-NoMemory-clause-does g c =
+pub returns-clause-does : goal.returns-clause-does
+returns-clause-does g c =
     λ command asked. undone command c.args.moment c.args.nonce _ c.requires.wires.log (new_tape c.args.tape.now c.requires.tape.log) c.requires.tape.log
 
 pub returns-in-Ok-clause-files : goal.returns-in-Ok-clause-files
@@ -32,8 +32,8 @@ returns-in-Ok-clause-files g c = files_so c.in-Ok.ensures.exact c.perform.ensure
 pub returns-in-Err-No-clause-files : goal.returns-in-Err-No-clause-files
 returns-in-Err-No-clause-files g c = files_stay (λ is. cc)
 
-pub returns-in-Err-NoMemory-clause-files : goal.returns-in-Err-NoMemory-clause-files
-returns-in-Err-NoMemory-clause-files g c = files_stay (λ is. cc)
+pub returns-clause-files : goal.returns-clause-files
+returns-clause-files g c = files_stay (λ is. cc)
 
 pub returns-in-Ok-clause-wires : goal.returns-in-Ok-clause-wires
 returns-in-Ok-clause-wires g c = wires_so c.in-Ok.ensures.exact (to_z-of_z {w = w64} {z = c.args.moment} (search rules)) c.perform.ensures.wires
@@ -41,8 +41,8 @@ returns-in-Ok-clause-wires g c = wires_so c.in-Ok.ensures.exact (to_z-of_z {w = 
 pub returns-in-Err-No-clause-wires : goal.returns-in-Err-No-clause-wires
 returns-in-Err-No-clause-wires g c = wires_stay c.requires.wires
 
-pub returns-in-Err-NoMemory-clause-wires : goal.returns-in-Err-NoMemory-clause-wires
-returns-in-Err-NoMemory-clause-wires g c = wires_stay c.requires.wires
+pub returns-clause-wires : goal.returns-clause-wires
+returns-clause-wires g c = wires_stay c.requires.wires
 
 pub returns-in-Ok-clause-tape : goal.returns-in-Ok-clause-tape
 returns-in-Ok-clause-tape g c = tape_so c.in-Ok.ensures.exact (to_z-of_z {w = w64} {z = c.args.moment} (search rules)) c.perform.ensures.tape
@@ -50,8 +50,8 @@ returns-in-Ok-clause-tape g c = tape_so c.in-Ok.ensures.exact (to_z-of_z {w = w6
 pub returns-in-Err-No-clause-tape : goal.returns-in-Err-No-clause-tape
 returns-in-Err-No-clause-tape g c = tape_stays c.requires.tape
 
-pub returns-in-Err-NoMemory-clause-tape : goal.returns-in-Err-NoMemory-clause-tape
-returns-in-Err-NoMemory-clause-tape g c = tape_stays c.requires.tape
+pub returns-clause-tape : goal.returns-clause-tape
+returns-clause-tape g c = tape_stays c.requires.tape
 
 pub returns-in-Ok-clause-played : goal.returns-in-Ok-clause-played
 returns-in-Ok-clause-played g c = played_so c.in-Ok.ensures.exact c.perform.ensures.played
@@ -70,8 +70,8 @@ returns-in-Err-No-clause-ends g c =
     ends_untold (command_of (names_in c.args.words.now)) Usage (g.F.Files.files c.args.files.now) (g.W.Wires.told c.args.wires.now)
     (told_of c.args.tape.now) c.args.ends.now.items refl
 
-pub returns-in-Err-NoMemory-clause-ends : goal.returns-in-Err-NoMemory-clause-ends
-returns-in-Err-NoMemory-clause-ends g c =
+pub returns-clause-ends : goal.returns-clause-ends
+returns-clause-ends g c =
     ends_untold (command_of (names_in c.args.words.now)) NoMemory (g.F.Files.files c.args.files.now) (g.W.Wires.told c.args.wires.now)
     (told_of c.args.tape.now) c.args.ends.now.items refl
 
@@ -81,5 +81,5 @@ returns-in-Ok-clause-spawner g c = spawner_so c.in-Ok.ensures.exact c.perform.en
 pub returns-in-Err-No-clause-spawner : goal.returns-in-Err-No-clause-spawner
 returns-in-Err-No-clause-spawner g c = unspawned refl
 
-pub returns-in-Err-NoMemory-clause-spawner : goal.returns-in-Err-NoMemory-clause-spawner
-returns-in-Err-NoMemory-clause-spawner g c = unspawned refl
+pub returns-clause-spawner : goal.returns-clause-spawner
+returns-clause-spawner g c = unspawned refl
