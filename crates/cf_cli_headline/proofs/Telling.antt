@@ -1,13 +1,12 @@
 -- What is promised of a run has the headline.
-use Rattle.std.proofs.Common.{◌≡◌, ◌≢◌, ◌⊎◌, inl, inr, ℕ, List, [], Option, Bool, true, false, refl, sym, ap, ◌∙◌, subst}
-use Rattle.std.proofs.lemmas.Bool.{both_ways, cases_Bool}
-use Rattle.cf_bytes.specs.declared.hash.Hash32.{Hash32}
+use Rattle.std.proofs.Common.{◌≡◌, ◌⊎◌, inl, inr, ℕ, List, [], Option, Bool, false, refl, sym, ap, ◌∙◌, subst}
+use Rattle.std.proofs.lemmas.Bool.{both_ways, cases_Bool, false≢true}
 use Rattle.cf_bytes.specs.Files.{Named}
 use Rattle.cf_bytes.specs.Outside.{with_more}
 use Rattle.std.specs.FinMap.{get}
 use Rattle.std.specs.Prelude.{IsSomeAnd, Some, Ok}
 use Rattle.cf_answers.specs.declared.status.Status.{Status}
-use Rattle.cf_answers.specs.declared.status.Status.TheVariants.{Done, FileFault}
+use Rattle.cf_answers.specs.declared.status.Status.TheVariants.{BadFile, Done, FileFault, NoMemory, Usage}
 use Rattle.cf_answers.specs.Statuses.{has_run}
 use Rattle.cf_cli_client.specs.Theorem.{IsAnswerOf, IsWatchFile, KeptOnce, KeptOver, Ran, RanBy}
 use Rattle.cf_input.specs.WatchFile.{watch_of}
@@ -15,9 +14,9 @@ use Rattle.cf_run.specs.declared.outcome.End.{End}
 use Rattle.cf_run.specs.declared.outcome.End.TheVariants.{Synced}
 use Rattle.cf_run.specs.Run.{IsEnd}
 use Rattle.cf_run_text.specs.Texts.{end_text}
-use Rattle.cf_sync.specs.Fetching.{AreBytes, IsQuiet, Rightly, once}
+use Rattle.cf_sync.specs.Fetching.{AreBytes, Rightly, once}
 use Rattle.cf_wires.specs.Log.{Log}
-use Rattle.cf_headline.specs.Grounds.{HasWritten, WereGreeted}
+use Rattle.cf_headline.specs.Grounds.{WereGreeted}
 use Rattle.cf_headline.proofs.Serving.{headline_of}
 use Rattle.cf_cli_headline.specs.Kept.{GreetsUnrun, HasScripts, HeadlineOver}
 use Rattle.cf_cli_headline.proofs.Greeted.{orderly_greeted}
@@ -60,11 +59,16 @@ none_greeted log none = subst WereGreeted (sym none) tt
 -- a record that couldn't be written, or no run
 unrun_greeted : (status : Status) (scripts names : List (List ℕ)) (log : Log) → has_run status ≡ false
     → (status ≡ FileFault → (log ≡ []) ⊎ RanBy (once scripts) names log) → GreetsUnrun status log → WereGreeted log
+unrun_greeted NoMemory scripts names log none recorded others = others.greeted refl
+unrun_greeted Usage scripts names log none recorded others =
+    none_greeted log (others.refused refl (λ is. (let clash = is in cc)))
+unrun_greeted (BadFile which place cause) scripts names log none recorded others =
+    none_greeted log (others.refused refl (λ is. (let clash = is in cc)))
 unrun_greeted FileFault scripts names log none recorded others = elim (recorded refl) [
   | inl empty ↦ none_greeted log empty
   | inr by ↦ orderly_greeted log by.followed.run.was_orderly
 ]
-unrun_greeted status scripts names log none recorded others = others none (λ is. (let clash = is in cc))
+unrun_greeted status scripts names log none recorded others = absurd (false≢true (sym none))
 
 -- where no run came, the scripts are none's
 unrun_headline : (status : Status) (scripts : List (List ℕ)) (before after : Option (List ℕ)) (log : Log)

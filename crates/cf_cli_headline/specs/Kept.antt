@@ -1,5 +1,5 @@
 -- statement: the headline of a run of the program, by its log and by what was written.
-use Rattle.std.specs.Prelude.{◌≡◌, ◌≢◌, ℕ, false, List, Option, Some}
+use Rattle.std.specs.Prelude.{◌≡◌, ◌≢◌, ℕ, true, List, [], Option, Some}
 use Rattle.std.specs.FinMap.{get}
 use Rattle.std.specs.List.{AllByRecursion}
 use Rattle.cf_bytes.specs.Cut.{IsBytes}
@@ -8,8 +8,8 @@ use Rattle.cf_bytes.specs.Outside.{with_more}
 use Rattle.cf_wires.specs.Log.{Log}
 use Rattle.cf_plain.specs.Plain.{watch_lines}
 use Rattle.cf_answers.specs.declared.status.Status.{Status}
-use Rattle.cf_answers.specs.declared.status.Status.TheVariants.{Done, FileFault}
-use Rattle.cf_answers.specs.Statuses.{has_run}
+use Rattle.cf_answers.specs.declared.status.Status.TheVariants.{Done, FileFault, NoMemory}
+use Rattle.cf_answers.specs.Statuses.{was_refused}
 use Rattle.cf_headline.specs.Grounds.{WereGreeted}
 use Rattle.cf_headline.specs.Headline.{Headline}
 
@@ -20,10 +20,12 @@ pub record HeadlineOver (status : Status) (scripts : List (List ℕ)) (before af
   pub written : status ≡ Done → after ≡ with_more before text
   pub headline : Headline (status ≡ Done) scripts text log
 
--- of an answer to which no run came, and which isn't that of a record: who was there when a delivery was taken had been
--- sent a version
-abbrev pub GreetsUnrun : Status → Log → Type 0
-GreetsUnrun status log = has_run status ≡ false → status ≢ FileFault → WereGreeted log
+-- Of an answer to which no run came: where the words or a file were refused, nothing has passed; and where memory was
+-- wanting, who was there when a delivery was taken had been sent a version. (A record that can't be written is told
+-- with the run.)
+pub record GreetsUnrun (status : Status) (log : Log) : Type 0 where
+  pub refused : was_refused status ≡ true → status ≢ FileFault → log ≡ []
+  pub greeted : status ≡ NoMemory → WereGreeted log
 
 -- among the files there is a watch file of these scripts
 pub record HasScripts (files : Option Named) (watch : List ℕ) (scripts : List (List ℕ)) : Type 0 where

@@ -1,11 +1,11 @@
 -- The words of `cf replay WATCH SESSION`.
-use Rattle.std.proofs.Common.{◌≡◌, List, [], ◌∷◌, Some, true, false, Bool, if◌then◌else◌, refl, ap, ◌∙◌}
+use Rattle.std.proofs.Common.{◌≡◌, List, [], ◌∷◌, Some, true, false, if◌then◌else◌, refl, ap, ◌∙◌}
 use Rattle.std.specs.Prelude.{codes, None}
 use Rattle.clap.proofs.OnLiterals.{clap_on_literals}
 use Rattle.clap.specs.Faults.{fault_of, level_fault, walk_fault, settle_fault, defaults_fault, check_fault}
 use Rattle.clap.specs.Kinds.{Kinds, or_else}
 use Rattle.clap.specs.Simple.{Shape, built, built_leaf, rows_at, subcommand_of}
-use Rattle.clap.specs.Walk.{Held, Row, Text, Walk, idle, finished, settled, nothing_held, rows_after, to_positional, arg_by_index, walk, walk_from, walked}
+use Rattle.clap.specs.Walk.{Held, Text, Walk, idle, finished, settled, nothing_held, rows_after, to_positional, arg_by_index, walk, walk_from, walked}
 use Rattle.cf_input.specs.Words.{cli_app, client_app, with_sub, replay_app, asked_of, command_of, is_faultless}
 use Rattle.cf_input.specs.declared.words.Command.TheVariants.{Replay}
 use Rattle.cf_plain.specs.Plain.{is_plain, replay_words}

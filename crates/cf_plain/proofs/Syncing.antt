@@ -1,15 +1,15 @@
 -- The words of `cf sync WATCH PEER..`.
-use Rattle.std.proofs.Common.{◌≡◌, ℕ, zero, suc, ◌≤◌, ◌<◌, List, [], ◌∷◌, ◌++◌, Some, true, false, Bool, not, ◌&&◌, ◌==◌, if◌then◌else◌, length, refl, sym, ap, ◌∙◌, append_assoc, arith, Option, eqb-true, ltb-true, leb-true}
+use Rattle.std.proofs.Common.{◌≡◌, ℕ, ◌≤◌, List, [], ◌∷◌, ◌++◌, Some, true, false, Bool, ◌&&◌, ◌==◌, if◌then◌else◌, length, refl, sym, ap, ◌∙◌, append_assoc, arith, Option, eqb-true, ltb-true, leb-true}
 use Rattle.std.proofs.lemmas.Bool.{and_parts, false_from_ne_true}
 use Rattle.std.proofs.lemmas.List.{append-nil}
 use Rattle.std.specs.Prelude.{codes, None, nat_lt, nat_le}
 use Rattle.std.specs.List.{fold, list_all}
 use Rattle.clap.proofs.OnLiterals.{clap_on_literals}
-use Rattle.clap.specs.Faults.{fault_of, level_fault, walk_fault, settle_fault, defaults_fault, check_fault, values_fault}
+use Rattle.clap.specs.Faults.{fault_of, level_fault, walk_fault, settle_fault, defaults_fault, check_fault}
 use Rattle.clap.specs.Kinds.{Kinds, or_else, range_kinds, values_kinds}
 use Rattle.clap.specs.Lexer.{usize_max}
 use Rattle.clap.specs.Simple.{Shape, built, built_leaf, rows_at, subcommand_of}
-use Rattle.clap.specs.Walk.{Held, Row, Text, Walk, Waiting, idle, positional, finished, settled, nothing_held, rows_after, to_positional, arg_by_index, walk, walk_from, walked}
+use Rattle.clap.specs.Walk.{Held, Text, Walk, idle, positional, finished, settled, nothing_held, to_positional, arg_by_index, walk, walk_from, walked}
 use Rattle.clap.specs.declared.builder.value_parser.ValueParser.TheVariants as vp
 use Rattle.cf_input.specs.Name.{is_name}
 use Rattle.cf_input.specs.Words.{cli_app, client_app, with_sub, sync_app, asked_of, command_of, is_faultless, are_names, most_turns, over_peers}

@@ -1,5 +1,5 @@
 -- What plain words come to in a walk over words: a subcommand, and then values of positionals.
-use Rattle.std.proofs.Common.{◌≡◌, ℕ, List, [], ◌∷◌, ◌++◌, Option, Some, None, Bool, true, false, not, ◌&&◌, ◌==◌, if◌then◌else◌, refl, sym, ap, ◌∙◌, append_assoc}
+use Rattle.std.proofs.Common.{◌≡◌, ℕ, List, [], ◌∷◌, ◌++◌, Some, None, Bool, true, false, not, ◌&&◌, ◌==◌, if◌then◌else◌, refl, sym, ap, ◌∙◌, append_assoc}
 use Rattle.std.proofs.lemmas.List.{append-nil}
 use Rattle.std.specs.Prelude.{is_some, find, option_and_then, option_map}
 use Rattle.std.specs.List.{fold}
@@ -9,7 +9,7 @@ use Rattle.clap.specs.Faults.{turn_fault, step_fault, walk_fault, flag_word_faul
 use Rattle.clap.specs.Kinds.{Kinds, or_else}
 use Rattle.clap.specs.Lexer.{long_of, long_of_rest, short_of, short_of_rest, strip_byte}
 use Rattle.clap.specs.Simple.{App, Shape, entered, label_of, names_of, rows_at}
-use Rattle.clap.specs.Walk.{Held, Names, Row, Rule, Step, Text, Waiting, Walk, idle, positional, trailing, value, after_step, answers_to, arg_by_index, finished, long_or_other, nothing_held, settled, short_or_plain, stop_after, to_positional, walk, walk_from, walked, walked_from, word_met}
+use Rattle.clap.specs.Walk.{Held, Names, Rule, Step, Text, Waiting, Walk, idle, positional, trailing, value, after_step, answers_to, arg_by_index, finished, long_or_other, nothing_held, settled, short_or_plain, stop_after, to_positional, walk, walk_from, walked, walked_from, word_met}
 use Rattle.cf_plain.specs.Plain.{is_plain}
 
 -- ---- a plain word is no flag
